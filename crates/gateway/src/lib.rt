@@ -1,0 +1,2 @@
+// The outer face: every public call as a C function over plain structs and lent bytes (include/axle_gateway.h).
+mod refusals;
