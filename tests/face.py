@@ -7,6 +7,12 @@ LIB = c.CDLL(str(pathlib.Path(__file__).resolve().parent.parent / "target/c/liba
 
 u8, u16, u32, u64, size = c.c_uint8, c.c_uint16, c.c_uint32, c.c_uint64, c.c_size_t
 BYTES = (c.c_char_p, size)  # a lent slice to read: pointer and length
+LENT = (c.c_void_p, size)  # a lent slice to write to, made by lend()
+
+
+def lend(data):
+    """A buffer of our own with these bytes in it."""
+    return (u8 * len(data)).from_buffer_copy(data) if data else (u8 * 0)()
 
 
 class Refusal(c.Structure):
@@ -17,7 +23,7 @@ class Refusal(c.Structure):
 
 
 def declare(name, answer, *arguments):
-    """A function of the library; an argument BYTES takes two places, and a call passes the bytes object alone."""
+    """A function of the library; a lent slice takes two places, and a call passes the bytes or the buffer alone."""
     f = getattr(LIB, name)
     f.restype = answer
     f.argtypes = [t for a in arguments for t in (a if isinstance(a, tuple) else (a,))]
@@ -32,3 +38,29 @@ def declare(name, answer, *arguments):
 
 
 refusal = declare("axle_refusal", Refusal, u8)
+
+
+# SHA-256
+
+
+class Hash(c.Structure):
+    _fields_ = [("state", u32 * 8), ("tail", u8 * 64), ("length", u64)]
+
+
+class Absorbed(c.Structure):
+    _fields_ = [("refusal", Refusal), ("hash", Hash)]
+
+
+class Digest(c.Structure):
+    _fields_ = [("bytes", u8 * 32)]
+
+
+class Digested(c.Structure):
+    _fields_ = [("refusal", Refusal), ("digest", u8 * 32)]
+
+
+sizeof_hash = c.sizeof(Hash)
+hash_fresh = declare("axle_hash_fresh", Hash)
+hash_absorb = declare("axle_hash_absorb", Absorbed, Hash, BYTES)
+hash_digest = declare("axle_hash_digest", Digest, Hash)
+sha256 = declare("axle_sha256", Digested, BYTES)
