@@ -22,11 +22,16 @@ class Refusal(c.Structure):
         return self.number, self.level, self.code
 
 
+CALLS = {}  # every call that is declared here: its function and the kinds of its arguments
+
+
 def declare(name, answer, *arguments):
     """A function of the library; a lent slice takes two places, and a call passes the bytes or the buffer alone."""
     f = getattr(LIB, name)
     f.restype = answer
     f.argtypes = [t for a in arguments for t in (a if isinstance(a, tuple) else (a,))]
+
+    CALLS[name] = f, arguments
 
     def call(*given):
         passed = []
