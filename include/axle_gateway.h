@@ -84,6 +84,57 @@ AxleDigest axle_hash_digest(AxleHash hash);
 /* The digest of one whole message. 10 where it has more than 1,048,576 bytes. */
 AxleDigested axle_sha256(const uint8_t *message, size_t length);
 
+/* ---- Reading a hello -------------------------------------------------------------------------------------------- */
+
+/* A part of the message that was read: `length` bytes from place `at`, counted from the message's first byte. */
+typedef struct {
+    size_t at;
+    size_t length;
+} AxlePart;
+
+/* What a hello says by its extensions. */
+typedef struct {
+    uint8_t block;       /* there is an extension block, which may be empty */
+    AxlePart list;       /* the extensions in it */
+    uint8_t indicated;   /* renegotiation_info is there */
+    AxlePart indication; /* the bytes that it holds */
+    uint8_t ems;         /* extended_master_secret is there */
+    uint8_t others;      /* a type other than these two is there */
+} AxleExtensions;
+
+typedef struct {
+    uint16_t version;
+    AxlePart random;
+    AxlePart identifier;
+    AxlePart suites;
+    AxlePart methods;
+    uint8_t signal; /* 00 ff is among the suites */
+    AxleExtensions extensions;
+} AxleClientHello;
+
+typedef struct {
+    uint16_t version;
+    AxlePart random;
+    AxlePart identifier;
+    uint16_t suite;
+    uint8_t compression;
+    AxleExtensions extensions;
+} AxleServerHello;
+
+typedef struct {
+    AxleRefusal refusal;   /* 0, 1, 2, 3 or 10 */
+    AxleClientHello hello; /* refused: zeros */
+} AxleClientReading;
+
+typedef struct {
+    AxleRefusal refusal;   /* 0, 1, 2, 3 or 10 */
+    AxleServerHello hello; /* refused: zeros */
+} AxleServerReading;
+
+/* Reads one whole handshake message, header included: its fields, or the first fault. */
+AxleClientReading axle_read_client_hello(const uint8_t *message, size_t length);
+AxleServerReading axle_read_server_hello(const uint8_t *message, size_t length);
+
 #ifdef __cplusplus
 }
 #endif
