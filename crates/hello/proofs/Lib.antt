@@ -4,3 +4,6 @@ pub mod Walks
 pub mod Closings
 pub mod Hellos
 pub mod Answers
+pub mod Inversions
+pub mod Learnt
+pub mod Cases

@@ -1,14 +1,16 @@
 -- The answers of the two readers: the fields as places in the message, counted from its first byte, or the refusal. Every place
 -- follows from the lengths of the fields before it.
 -- Assumes nothing.
+use mathlib.Core.Path.{_≡_}
 use mathlib.Core.Bool.{Bool}
 use mathlib.Core.List.{List, [], _∷_}
-use Prim.Native.Nat.{ℕ, _+_, _-_}
+use Prim.Native.Nat.{ℕ, _+_, _-_, _≤_}
 use lib.Dec.{eqb}
-use lib.ListN.{length}
+use lib.ListN.{length, take, drop}
 use Rattle.seqs.specs.Pick.{pick}
 use Rattle.seqs.specs.Flag.{bit}
 use Rattle.refusal.specs.Table.{refusalOf}
+use Rattle.refusal.specs.declared.Refusal.{Refusal}
 use Rattle.hello.specs.Layout.{big}
 use Rattle.hello.specs.Extensions.{Extension, riKind, emsKind, has, othersOf}
 use Rattle.hello.specs.Fields.{Hello, Reading, fields, fault, signalIn}
@@ -27,6 +29,11 @@ part at n = record { at = at; length = n }
 -- the place behind a part
 abbrev pub behind : Part → ℕ
 behind p = p .at + p .length
+
+-- the part p of the message m is the list l
+pub record Points (m : List ℕ) (p : Part) (l : List ℕ) : Type 0 where
+  pub within : behind p ≤ length m
+  pub is : take (p .length) (drop (p .at) m) ≡ l
 
 -- how many bytes a list of extensions takes
 unfoldable pub sizeOf : List Extension → ℕ
@@ -99,3 +106,12 @@ clientAnswer (fault n) = client.Refused (refusalOf n)
 unfoldable pub serverAnswer : Reading → ServerRead
 serverAnswer (fields f) = server.Read (serverPlaces f)
 serverAnswer (fault n) = server.Refused (refusalOf n)
+
+-- the refusal of an answer, number 0 where there is none
+unfoldable pub clientRefusal : ClientRead → Refusal
+clientRefusal (client.Read h) = refusalOf 0
+clientRefusal (client.Refused r) = r
+
+unfoldable pub serverRefusal : ServerRead → Refusal
+serverRefusal (server.Read h) = refusalOf 0
+serverRefusal (server.Refused r) = r

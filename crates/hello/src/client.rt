@@ -17,7 +17,7 @@ ghost use mathlib.Core.Path.{_≡_};
 ghost use Prim.Native.Nat.{_+_, _≤_};
 ghost use lib.ListN.{length, take, drop};
 ghost use Rattle.hello.specs.Fields.{signalIn, readClient};
-ghost use Rattle.hello.specs.Places.{clientAnswer};
+ghost use Rattle.hello.specs.Places.{clientAnswer, clientRefusal};
 ghost use Rattle.hello.specs.Cuts.{ClientLays};
 
 // A ClientHello that was read.
@@ -36,6 +36,18 @@ pub struct ClientHello {
 pub enum ClientRead {
     Read(ClientHello),
     Refused(Refusal),
+}
+
+impl ClientRead {
+    // Of a hello that was read the number is 0.
+    pub fn refusal(self) -> Refusal
+        ensures { λ r. ⌜ r ≡ clientRefusal self ⌝ }
+    {
+        match self {
+            ClientRead::Read(_) => refuse(0),
+            ClientRead::Refused(refusal) => refusal,
+        }
+    }
 }
 
 pub(crate) enum ClientLaid {

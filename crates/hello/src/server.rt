@@ -13,7 +13,7 @@ use refusal::Refusal;
 use refusal::refuse;
 ghost use mathlib.Core.Path.{_≡_};
 ghost use Rattle.hello.specs.Fields.{readServer};
-ghost use Rattle.hello.specs.Places.{serverAnswer};
+ghost use Rattle.hello.specs.Places.{serverAnswer, serverRefusal};
 ghost use Rattle.hello.specs.Cuts.{ServerLays};
 
 // A ServerHello that was read.
@@ -31,6 +31,18 @@ pub struct ServerHello {
 pub enum ServerRead {
     Read(ServerHello),
     Refused(Refusal),
+}
+
+impl ServerRead {
+    // Of a hello that was read the number is 0.
+    pub fn refusal(self) -> Refusal
+        ensures { λ r. ⌜ r ≡ serverRefusal self ⌝ }
+    {
+        match self {
+            ServerRead::Read(_) => refuse(0),
+            ServerRead::Refused(refusal) => refusal,
+        }
+    }
 }
 
 pub(crate) enum ServerLaid {
