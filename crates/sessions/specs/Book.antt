@@ -59,9 +59,12 @@ there (some s) = true
 unfoldable pub isOf : ℕ → Session → Bool
 isOf a s = eqb (s .axle) a
 
--- 'Equal identifiers on two axles are two sessions.' Identifiers are compared whole.
+-- 'Equal identifiers on two axles are two sessions': a session goes by its axle and its identifier, compared whole.
+unfoldable pub isName : ℕ → List ℕ → ℕ → List ℕ → Bool
+isName a i a′ i′ = eqb a′ a && same i′ i
+
 unfoldable pub isNamed : ℕ → List ℕ → Session → Bool
-isNamed a i s = isOf a s && same (s .identifier) i
+isNamed a i s = isName a i (s .axle) (s .identifier)
 
 -- 'What an axle holds are its sessions in the row.'
 abbrev pub holds : ℕ → Book → ℕ

@@ -1,1 +1,5 @@
 pub mod Book
+pub mod History
+pub mod Keeps
+pub mod Promises
+pub mod Demand3
