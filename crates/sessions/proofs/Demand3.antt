@@ -2,13 +2,13 @@
 -- table keeps beside it.
 -- Assumes nothing.
 use mathlib.Core.Path.{_≡_, refl, sym, _∙_, ap, ap₂}
-use mathlib.Core.Bool.{Bool, true, false, false≢true}
-use mathlib.Core.List.{List, [], _∷_, _++_}
-use mathlib.Core.Logic.{_⊎_, inl, inr, ⊎-elim}
+use mathlib.Core.Bool.{Bool, true, false}
+use mathlib.Core.List.{List, _∷_}
+use mathlib.Core.Logic.{⊎-elim}
 use mathlib.Core.Option.{Option, none, some}
-use Prim.Native.Nat.{ℕ, zero, suc, _≤_, _<_}
+use Prim.Native.Nat.{ℕ, zero, suc, _≤_}
 use native.Mathlib.Omega.{arith}
-use lib.Dec.{eqb, leb, ltb}
+use lib.Dec.{eqb, ltb}
 use lib.ListN.{length, take, drop}
 use lib.Seq.{take-at}
 use borrow.Author.Tests.{eq-eqb, eqb-true, le-leb, ltb-false}
@@ -16,12 +16,11 @@ use Rattle.seqs.specs.Flag.{yes, bit}
 use Rattle.seqs.specs.Pick.{pick}
 use Rattle.refusal.specs.First.{firstOf}
 use Rattle.refusal.specs.Table.{refusalOf}
-use Rattle.octets.specs.Put.{putList}
-use Rattle.sessions.specs.Book.{Session, Book, session, empty, there, isNamed, sought, badName, tooShort, storeNumber, lookUpNumber, withdrawNumber, heldNumber, granted, handed, holds, isName, lookUp, Answer, stored, looked, withdrew, counted, cleared, answer, after, answersFrom, bookFrom, numberOf}
+use Rattle.sessions.specs.Book.{Session, Book, session, empty, there, isNamed, sought, badName, tooShort, storeNumber, lookUpNumber, withdrawNumber, heldNumber, granted, handed, holds, isName, lookUp, Answer, looked, withdrew, counted, answer, after, answersFrom, bookFrom, numberOf}
 use Rattle.sessions.specs.History.{Event, History, callsOf, answersOf, latest, since, latestFrom, sinceFrom, noted, further}
 use Rattle.sessions.specs.Keeps.{Formed, Each, Keeps}
-use Rattle.sessions.specs.Promises.{Starts, Stores, LookedUp, LooksUp, Withdraws, CountsHeld, Clears, withEms, lookedOf, outputOf, withdrawnOf, heldOf}
-use Rattle.sessions.specs.Demand3.{foundBy, Step, storing, looking, withdrawing, counting, clearing, Run, done, next, Demand3, Theorem}
+use Rattle.sessions.specs.Promises.{LooksUp, withEms, lookedOf, outputOf, withdrawnOf, heldOf}
+use Rattle.sessions.specs.Demand3.{foundBy, Step, storing, looking, withdrawing, counting, clearing, Run, done, next, Theorem}
 use Rattle.sessions.specs.declared.table.Table.{Table}
 use Rattle.sessions.specs.declared.calls.Looked.{Looked}
 use Rattle.sessions.proofs.Rows.{which, oldest-meets, oldest-each}

@@ -4,3 +4,6 @@ pub mod Struck
 pub mod Sound
 pub mod Track
 pub mod Demand3
+pub mod Places
+pub mod Fields
+pub mod Eviction

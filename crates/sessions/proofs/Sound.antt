@@ -1,21 +1,20 @@
 -- Every call keeps a book sound: its sessions are ones that a store can have given, of different names, at most 8 of an axle and
 -- at most 32 in all.
 -- Assumes nothing.
-use mathlib.Core.Path.{_≡_, refl, sym, _∙_, ap}
+use mathlib.Core.Path.{_≡_, refl}
 use mathlib.Core.Bool.{Bool, true, false, not, _&&_, _||_, false≢true, true≢false}
 use mathlib.Core.List.{List, [], _∷_, _++_}
 use mathlib.Core.Logic.{⊎-elim}
-use Prim.Native.Nat.{ℕ, suc, _+_, _≤_, _<_}
+use Prim.Native.Nat.{ℕ, _≤_}
 use native.Mathlib.Omega.{arith}
 use lib.Dec.{eqb, leb}
 use lib.ListN.{length, length-append}
 use borrow.Author.Tests.{eqb-true, leb-true}
-use Rattle.seqs.specs.Pick.{pick}
 use Rattle.refusal.specs.First.{firstOf}
 use Rattle.sessions.specs.Book.{Session, Book, session, many, strike, isOf, isName, isNamed, holds, fullest, struck, written, badAxle, badName, badSecret, storeNumber, withdrawNumber, Call, store, lookUp, withdraw, held, clear, after, empty}
 use Rattle.sessions.specs.Keeps.{Formed, Each, Sound}
-use Rattle.sessions.proofs.Rows.{which, not-both, many-append, strike-none, strike-length, strike-shorter, many-strike, within-many}
-use Rattle.sessions.proofs.Names.{and-left, and-right, name-axle, name-identifier, axle-of, named-of, of-axle}
+use Rattle.sessions.proofs.Rows.{which, many-append, strike-length, strike-shorter, many-strike, within-many}
+use Rattle.sessions.proofs.Names.{and-left, and-right, name-axle, name-identifier, axle-of, named-of}
 use Rattle.sessions.proofs.Struck.{Struck, renewed, own, room, other, struck-is, fullest-six}
 
 -- ---- the sessions of a row, each

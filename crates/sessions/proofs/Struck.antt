@@ -1,8 +1,8 @@
 -- The session that a store strikes out: document 01's five cases as they are put to use, and that one goes wherever the row is
 -- full: of 32 sessions on six axles the axle with most has at least 6.
 -- Assumes nothing.
-use mathlib.Core.Path.{_≡_, refl, sym, _∙_, ap}
-use mathlib.Core.Bool.{Bool, true, false}
+use mathlib.Core.Path.{_≡_, refl}
+use mathlib.Core.Bool.{true, false}
 use mathlib.Core.List.{List, [], _∷_}
 use mathlib.Core.Logic.{⊎-elim}
 use Prim.Native.Nat.{ℕ, zero, suc, _+_, _≤_, _<_}
@@ -11,8 +11,8 @@ use lib.Dec.{eqb, leb, ltb}
 use lib.ListN.{length}
 use borrow.Author.Tests.{eqb-true, eqb-false, ltb-true, ltb-false, leb-true, leb-false}
 use Rattle.seqs.specs.Pick.{pick}
-use Rattle.sessions.specs.Book.{Session, Book, many, strike, there, isOf, isNamed, holds, sought, fuller, fullest, struck}
-use Rattle.sessions.specs.Keeps.{Formed, Each, Sound}
+use Rattle.sessions.specs.Book.{Book, many, strike, there, isOf, isNamed, holds, sought, fuller, fullest, struck}
+use Rattle.sessions.specs.Keeps.{Formed, Each}
 use Rattle.sessions.proofs.Rows.{which, there-some, there-none}
 
 one-of-six : (a : ℕ) → 1 ≤ a → a ≤ 6

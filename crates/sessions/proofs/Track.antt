@@ -3,7 +3,7 @@
 -- only as the oldest of its axle, where that holds 4 or more and stores itself, or 6 or more: so four stores since, or more.
 -- Assumes nothing.
 use mathlib.Core.Path.{_≡_, refl, sym, _∙_, ap}
-use mathlib.Core.Bool.{Bool, true, false, false≢true}
+use mathlib.Core.Bool.{Bool, true, false}
 use mathlib.Core.List.{List, [], _∷_, _++_}
 use mathlib.Core.Logic.{_⊎_, inl, inr, ⊎-elim}
 use mathlib.Core.Option.{Option, none, some}
@@ -11,14 +11,13 @@ use Prim.Native.Nat.{ℕ, suc, _+_, _≤_, _<_}
 use native.Mathlib.Nat.{add-zero}
 use native.Mathlib.Omega.{arith}
 use lib.Dec.{eqb}
-use lib.ListN.{length}
 use borrow.Author.Tests.{eqb-true, eqb-false}
 use Rattle.seqs.specs.Pick.{pick}
-use Rattle.sessions.specs.Book.{Session, Book, session, many, oldest, strike, there, isOf, isName, isNamed, holds, sought, fullest, struck, written, storeNumber, withdrawNumber, Call, store, lookUp, withdraw, held, clear, answer, numberOf, after, empty}
+use Rattle.sessions.specs.Book.{Session, Book, session, many, oldest, strike, isOf, isName, isNamed, holds, sought, fullest, struck, written, storeNumber, withdrawNumber, Call, store, lookUp, withdraw, held, clear, answer, numberOf, after, empty}
 use Rattle.sessions.specs.History.{noted, further}
-use Rattle.sessions.specs.Keeps.{Formed, Each, Sound}
-use Rattle.sessions.proofs.Rows.{which, zero-or, not-both, last-oldest, last-many, many-append, none-there, append-some, append-none, behind, behind-some, behind-none, many-strike, strike-many, within-strike, apart-oldest, apart-many, apart-behind}
-use Rattle.sessions.proofs.Names.{name-axle, name-identifier, axle-of, of-axle, of-other, named-of, named-other, named-apart}
+use Rattle.sessions.specs.Keeps.{Sound}
+use Rattle.sessions.proofs.Rows.{which, zero-or, last-oldest, last-many, none-there, append-none, behind, behind-some, behind-none, many-strike, strike-many, within-strike, apart-oldest, apart-many, apart-behind}
+use Rattle.sessions.proofs.Names.{name-axle, name-identifier, of-axle, of-other, named-of, named-other, named-apart}
 use Rattle.sessions.proofs.Sound.{struck-gone}
 use Rattle.sessions.proofs.Struck.{Struck, renewed, own, room, other, struck-is, fullest-six}
 

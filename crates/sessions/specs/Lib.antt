@@ -3,3 +3,4 @@ pub mod History
 pub mod Keeps
 pub mod Promises
 pub mod Demand3
+pub mod Places
