@@ -2,11 +2,11 @@
 -- table keeps beside it.
 -- Assumes nothing.
 use mathlib.Core.Path.{_≡_, refl, sym, _∙_, ap, ap₂}
-use mathlib.Core.Bool.{Bool, true, false}
+use mathlib.Core.Bool.{true, false}
 use mathlib.Core.List.{List, _∷_}
 use mathlib.Core.Logic.{⊎-elim}
 use mathlib.Core.Option.{Option, none, some}
-use Prim.Native.Nat.{ℕ, zero, suc, _≤_}
+use Prim.Native.Nat.{ℕ, _≤_}
 use native.Mathlib.Omega.{arith}
 use lib.Dec.{eqb, ltb}
 use lib.ListN.{length, take, drop}
@@ -15,7 +15,6 @@ use borrow.Author.Tests.{eq-eqb, eqb-true, le-leb, ltb-false}
 use Rattle.seqs.specs.Flag.{yes, bit}
 use Rattle.seqs.specs.Pick.{pick}
 use Rattle.refusal.specs.First.{firstOf}
-use Rattle.refusal.specs.Table.{refusalOf}
 use Rattle.sessions.specs.Book.{Session, Book, session, empty, there, isNamed, sought, badName, tooShort, storeNumber, lookUpNumber, withdrawNumber, heldNumber, granted, handed, holds, isName, lookUp, Answer, looked, withdrew, counted, answer, after, answersFrom, bookFrom, numberOf}
 use Rattle.sessions.specs.History.{Event, History, callsOf, answersOf, latest, since, latestFrom, sinceFrom, noted, further}
 use Rattle.sessions.specs.Keeps.{Formed, Each, Keeps}
@@ -23,31 +22,10 @@ use Rattle.sessions.specs.Promises.{LooksUp, withEms, lookedOf, outputOf
 use Rattle.sessions.specs.Demand3.{foundBy, Step, storing, looking, withdrawing, counting, clearing, Run, done, next, Theorem}
 use Rattle.sessions.specs.declared.table.Table.{Table}
 use Rattle.sessions.specs.declared.calls.Looked.{Looked}
+use Rattle.sessions.proofs.Numbers.{number-is, yes-bit}
 use Rattle.sessions.proofs.Rows.{which, oldest-meets, oldest-each}
 use Rattle.sessions.proofs.Names.{named-name, name-axle, name-identifier}
 use Rattle.sessions.proofs.Track.{Track, track-none, track-call}
-
--- ---- the number in a refusal
-
-number-is : (n : ℕ) → refusalOf n .number ≡ n
-unfolding refusalOf
-number-is zero = refl
-number-is (suc zero) = refl
-number-is (suc (suc zero)) = refl
-number-is (suc (suc (suc zero))) = refl
-number-is (suc (suc (suc (suc zero)))) = refl
-number-is (suc (suc (suc (suc (suc zero))))) = refl
-number-is (suc (suc (suc (suc (suc (suc zero)))))) = refl
-number-is (suc (suc (suc (suc (suc (suc (suc zero))))))) = refl
-number-is (suc (suc (suc (suc (suc (suc (suc (suc zero)))))))) = refl
-number-is (suc (suc (suc (suc (suc (suc (suc (suc (suc zero))))))))) = refl
-number-is (suc (suc (suc (suc (suc (suc (suc (suc (suc (suc zero)))))))))) = refl
-number-is (suc (suc (suc (suc (suc (suc (suc (suc (suc (suc (suc zero))))))))))) = refl
-number-is (suc (suc (suc (suc (suc (suc (suc (suc (suc (suc (suc (suc n)))))))))))) = refl
-
-yes-bit : (t : Bool) → yes (bit t) ≡ t
-yes-bit true = refl
-yes-bit false = refl
 
 -- ---- a look-up hands back the session of the row
 

@@ -7,3 +7,5 @@ pub mod Demand3
 pub mod Places
 pub mod Fields
 pub mod Eviction
+pub mod Numbers
+pub mod Kept

@@ -1,17 +1,19 @@
 -- The row from place i on, as a loop goes through it, and the row of a table.
 -- Assumes nothing.
-use mathlib.Core.Path.{_≡_, refl, _∙_, ap}
+use mathlib.Core.Path.{_≡_, refl, sym, _∙_, ap}
 use mathlib.Core.Bool.{Bool, true, false}
 use mathlib.Core.List.{List, [], _∷_, _++_, map}
-use mathlib.Core.Logic.{⊎-elim}
+use mathlib.Core.Logic.{_⊎_, inl, inr, ⊎-elim}
 use mathlib.Core.Option.{none, some}
-use Prim.Native.Nat.{ℕ, zero, suc, _+_, _≤_, _<_}
+use Prim.Native.Nat.{ℕ, zero, suc, _+_, _≤_, _<_, max}
 use native.Mathlib.Nat.{zero-add}
 use native.Mathlib.Numerals.{add-one}
 use native.Mathlib.Omega.{arith}
 use lib.ListN.{length, take, drop, getD, set, length-take, length-map, drop-of-length-le, List·getD-map}
 use lib.Seq.{drop-cons, getD-take, take-set-le, take-suc-set}
-use Rattle.seqs.specs.Cut.{cut, take-measure, Shifted}
+use lib.Dec.{ltb}
+use borrow.Author.Tests.{ltb-true, ltb-false}
+use Rattle.seqs.specs.Cut.{cut, cut-past, take-measure, Shifted, shifted-none}
 use Rattle.sessions.specs.Book.{Session, Book, many, oldest, strike, isOf}
 use Rattle.sessions.specs.Keeps.{sessionOf, bookOf}
 use Rattle.sessions.specs.Places.{place}
@@ -129,14 +131,29 @@ book-cut t rows i j r s e =
     let n : j + 1 ≡ length (take (t .len) (t .rows)) = e ∙ book-length t in
     rw (take-set-le j rows j r (omega arith), s .moved, n, take-measure (t .len) (t .rows)) (map-cut sessionOf i (take (t .len) (t .rows)))
 
--- a row more
-pub book-more : (t : Table) (n : ℕ) (r : Row) → n ≡ length (bookOf t) → n < length (t .rows)
-    → bookOf (record { rows = set (t .rows) n r; len = n + 1 }) ≡ bookOf t ++ (sessionOf r ∷ [])
+last-place : (i j n : ℕ) → i ≤ j → i ≤ n → j + 1 ≤ max n (i + 1) → n ≤ j + 1 → (j + 1 ≡ n) ⊎ ((j ≡ i) × (i ≡ n))
+last-place i j n f h m g =
+    ⊎-elim
+    (λ (y : ltb i n ≡ true). let l : i < n = ltb-true i n y in inl (omega arith))
+    (λ (y : ltb i n ≡ false). let l : n ≤ i = ltb-false i n y in inr (omega arith, omega arith))
+    (which (ltb i n))
+
+-- and a new row is the last: i is the place of a row, or the next free one
+pub book-renewed : (t : Table) (rows : List Row) (i j : ℕ) (r : Row) → Shifted (t .rows) rows i j → i ≤ length (bookOf t)
+    → j + 1 ≤ max (length (bookOf t)) (i + 1) → length (bookOf t) ≤ j + 1
+    → bookOf (record { rows = set rows j r; len = j + 1 }) ≡ cut i (bookOf t) ++ (sessionOf r ∷ [])
 unfolding bookOf
-book-more t n r e h =
-    let z : n ≡ length (take (t .len) (t .rows)) = e ∙ book-length t in
-    let k : take n (t .rows) ≡ take (t .len) (t .rows) = rw (z, take-measure (t .len) (t .rows)) in
-    rw (add-one, take-suc-set (t .rows) n r h, k) (map-last sessionOf (take (t .len) (t .rows)) r)
+book-renewed t rows i j r s h m g =
+    let l = take (t .len) (t .rows) in
+    let n : length (map sessionOf l) ≡ length l = book-length t in
+    let k : j < length rows = omega (arith, s .long, s .below) in
+    let left : cut i (take (j + 1) (t .rows)) ≡ cut i l =
+    ⊎-elim
+    (λ (e : j + 1 ≡ length l). rw (e, take-measure (t .len) (t .rows)))
+    (λ (e : (j ≡ i) × (i ≡ length l)).
+    rw (e .0) (sym (shifted-none (t .rows) i (omega (arith, e .0, s .below)) .moved) ∙ (rw (e .1, take-measure (t .len) (t .rows))) ∙ sym (cut-past i l (omega (arith, e .1)))))
+    (last-place i j (length l) (s .from) (omega arith) (omega arith) (omega arith)) in
+    rw (add-one, take-suc-set rows j r k, s .moved, left) (map-last sessionOf (cut i l) r ∙ ap (λ (b : Book). b ++ (sessionOf r ∷ [])) (map-cut sessionOf i l))
 
 pub book-none : (t : Table) → t .len ≡ 0 → bookOf t ≡ []
 unfolding bookOf

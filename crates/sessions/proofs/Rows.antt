@@ -4,7 +4,7 @@
 use mathlib.Core.Path.{_≡_, refl, sym, _∙_, ap}
 use mathlib.Core.Bool.{Bool, true, false, false≢true, true≢false}
 use mathlib.Core.List.{[], _∷_, _++_}
-use mathlib.Core.Logic.{_⊎_, inl, inr, ⊎-elim}
+use mathlib.Core.Logic.{_⊎_, inl, inr, ⊎-elim, ⊎-map}
 use mathlib.Core.Option.{none, some}
 use Prim.Native.Nat.{ℕ, zero, suc, _+_, _-_, _≤_}
 use native.Mathlib.Nat.{zero-add, add-assoc}
@@ -189,10 +189,7 @@ module _ (p q : Session → Bool) where
         (λ (u : q s ≡ true). rw (n, u) (inl (refl, refl)))
         (λ (v : q s ≡ false).
         rw (v, n)
-        (⊎-elim
-        (λ w. inl w)
-        (λ w. inr (omega (arith, w .0), ap (λ (r : Book). s ∷ r) (w .1)))
-        (within-strike b (omega arith))))
+        (⊎-map (λ w. w) (λ w. (omega (arith, w .0), ap (λ (r : Book). s ∷ r) (w .1))) (within-strike b (omega arith))))
         (which (q s)))
         (which (p s))
 

@@ -60,7 +60,7 @@ pub record LookedUp (a : ℕ) (i out : List ℕ) (b : Book) (r : Looked) (out′
   pub output : out′ ≡ outputOf a i out b
 
 pub record LooksUp (t : Table) (a : ℕ) (i out : List ℕ) (r : Looked) (out′ : List ℕ) : Type 0 where
-  -- whatever the table is, the answer is that of some row: one of document 01's numbers, 11 for a bad name, 10 for a short output
+  -- whatever the table is, the answer is that of some row: one of document 01's numbers, and 11 for a bad name
   pub row : Book
   pub of-row : LookedUp a i out row r out′
   -- refused: nothing is written
@@ -107,4 +107,7 @@ knownOf none = Nothing
 knownOf (some s) = pick (s .ems) WithEms WithoutEms
 
 pub record Knows (t : Table) (a : ℕ) (i : List ℕ) (r : Known) : Type 0 where
+  -- whatever the table is, the answer is that of some row
+  pub row : Book
+  pub of-row : r ≡ knownOf (sought a i row)
   pub answers : (b : Book) → Keeps t b → r ≡ knownOf (sought a i b)

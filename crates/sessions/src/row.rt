@@ -35,7 +35,7 @@ impl Row {
         let mut name = [0u8; 32];
         octets::put(&mut name, identifier);
         let mut key = [0u8; 48];
-        octets::put(&mut key, secret);
+        octets::put(&mut key, &secret[..48]);
         let flag = if ems { 1 } else { 0 };
         Row {
             axle,

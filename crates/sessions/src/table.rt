@@ -2,11 +2,9 @@
 use crate::row::Row;
 ghost use mathlib.Core.Path.{_≡_};
 ghost use mathlib.Core.List.{[], _∷_, _++_};
-ghost use Prim.Native.Nat.{_≤_};
-ghost use lib.Dec.{ltb};
+ghost use Prim.Native.Nat.{_≤_, _<_};
 ghost use lib.ListN.{length};
 ghost use Rattle.seqs.specs.Cut.{cut};
-ghost use Rattle.seqs.specs.Pick.{pick};
 ghost use Rattle.sessions.specs.Book.{empty, isOf, isNamed, holds, fuller, fullest, struck};
 ghost use Rattle.sessions.specs.Keeps.{sessionOf, bookOf};
 ghost use Rattle.sessions.specs.Places.{place};
@@ -58,7 +56,8 @@ impl Table {
         let n = self.size();
         let mut i = 0;
         while i < n {
-            if self.rows[i].axle == axle {
+            let holder = self.rows[i].axle;
+            if holder == axle {
                 return i;
             }
             i += 1;
@@ -101,7 +100,7 @@ impl Table {
 
     // The place of the session that a store strikes out, or the size.
     pub(crate) fn victim(self, axle: u8, identifier: &[u8]) -> usize
-        ensures { λ r. ⌜ cut r (bookOf self) ≡ struck axle (now (identifier .entry)) (bookOf self) ⌝ }
+        ensures { λ r. ⌜ (cut r (bookOf self) ≡ struck axle (now (identifier .entry)) (bookOf self)) × (r ≤ length (bookOf self)) ⌝ }
     {
         let n = self.size();
         let at = self.find(axle, identifier);
@@ -140,17 +139,22 @@ impl Table {
         t
     }
 
-    // With one row more, if there is room.
-    pub(crate) fn with(self, row: Row) -> Table
-        ensures { λ r. ⌜ bookOf r ≡ pick (ltb (length (bookOf self)) 32) (bookOf self ++ (sessionOf row ∷ [])) (bookOf self) ⌝ }
+    // Without the row at i, if there is one, and with one row more, the last.
+    pub(crate) fn renewed(self, i: usize, row: Row) -> Table
+        ensures { λ r. ⌜ (i < 32 → i ≤ length (bookOf self) → bookOf r ≡ cut i (bookOf self) ++ (sessionOf row ∷ [])) ⌝ }
     {
-        let n = self.size();
-        if n == 32 {
+        if 32 <= i {
             return self;
         }
+        let n = self.size();
         let mut t = self;
-        t.rows[n] = row;
-        t.len = n + 1;
+        let mut j = i;
+        while j + 1 < n {
+            t.rows[j] = t.rows[j + 1];
+            j += 1;
+        }
+        t.rows[j] = row;
+        t.len = j + 1;
         t
     }
 }

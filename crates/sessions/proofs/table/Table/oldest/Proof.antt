@@ -25,11 +25,11 @@ size-requires c κs = search needs
 loop-holds : tie.Need-loop-holds Inv-loop μ-loop
 loop-holds c = (omega arith, sym (zero-add _))
 
-mul-if1 : tie.Need-mul-if1 Inv-loop μ-loop
-mul-if1 c = omega arith
+mul-holder : tie.Need-mul-holder Inv-loop μ-loop
+mul-holder c = omega arith
 
-element-copy-out-if1 : tie.Need-element-copy-out-if1 Inv-loop μ-loop
-element-copy-out-if1 c = omega arith
+element-copy-out-holder : tie.Need-element-copy-out-holder Inv-loop μ-loop
+element-copy-out-holder c = omega arith
 
 returns : tie.Need-returns Inv-loop μ-loop
 returns c =
@@ -67,8 +67,8 @@ oldest-spec =
     μ-loop
     size-requires
     loop-holds
-    mul-if1
-    element-copy-out-if1
+    mul-holder
+    element-copy-out-holder
     returns
     add-i
     loop-less
