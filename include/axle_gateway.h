@@ -135,6 +135,71 @@ typedef struct {
 AxleClientReading axle_read_client_hello(const uint8_t *message, size_t length);
 AxleServerReading axle_read_server_hello(const uint8_t *message, size_t length);
 
+/* ---- The session table ------------------------------------------------------------------------------------------ */
+
+typedef struct {
+    uint8_t axle;
+    uint8_t ems;
+    uint8_t size;
+    uint8_t identifier[32];
+    uint8_t secret[48];
+} AxleRow;
+
+/* The sessions of all six axles, at most 8 an axle and 32 in all. */
+typedef struct {
+    AxleRow rows[32];
+    size_t len;
+} AxleTable;
+
+typedef struct {
+    AxleRefusal refusal; /* 0, 10 or 11 */
+    AxleTable table;     /* the next state; refused: the one passed */
+} AxleStored;
+
+typedef struct {
+    AxleRefusal refusal; /* 0, 10 or 11 */
+    uint8_t found;
+    uint8_t ems; /* of the session found: was its secret made with extended_master_secret? */
+} AxleLooked;
+
+typedef struct {
+    AxleRefusal refusal; /* 0 or 11 */
+    uint8_t withdrawn;   /* was one there? */
+    AxleTable table;     /* the next state; refused: the one passed */
+} AxleWithdrawn;
+
+typedef struct {
+    AxleRefusal refusal; /* 0 or 11 */
+    uint8_t count;       /* how many sessions the axle holds */
+} AxleHeld;
+
+typedef struct {
+    AxleRefusal refusal; /* 0 */
+    AxleTable table;
+} AxleCleared;
+
+/* An empty table. */
+AxleTable axle_table_fresh(void);
+
+/* Stores a session: axle 1 to 6 and an identifier of 1 to 32 bytes, else 11; a secret of 48 bytes, else 10. A session
+ * under the same axle and identifier is replaced; where there is no room, the rules of document 01 say which one goes. */
+AxleStored axle_table_store(AxleTable table, uint8_t axle, const uint8_t *identifier, size_t identifier_length, uint8_t ems,
+                            const uint8_t *secret, size_t secret_length);
+
+/* Looks a session up. Found, its secret goes to the first 48 bytes of `out`; 10, with nothing written, where `out` is
+ * shorter. Where none is found nothing is written and no `out` is too short. */
+AxleLooked axle_table_look_up(AxleTable table, uint8_t axle, const uint8_t *identifier, size_t identifier_length, uint8_t *out,
+                              size_t out_length);
+
+/* Takes a session out of the table, if it is there. */
+AxleWithdrawn axle_table_withdraw(AxleTable table, uint8_t axle, const uint8_t *identifier, size_t identifier_length);
+
+/* How many sessions an axle holds. */
+AxleHeld axle_table_held(AxleTable table, uint8_t axle);
+
+/* Empties the table. */
+AxleCleared axle_table_clear(AxleTable table);
+
 #ifdef __cplusplus
 }
 #endif

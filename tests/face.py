@@ -132,3 +132,43 @@ class ServerReading(c.Structure):
 
 read_client_hello = declare("axle_read_client_hello", ClientReading, BYTES)
 read_server_hello = declare("axle_read_server_hello", ServerReading, BYTES)
+
+
+# The session table
+
+
+class Row(c.Structure):
+    _fields_ = [("axle", u8), ("ems", u8), ("size", u8), ("identifier", u8 * 32), ("secret", u8 * 48)]
+
+
+class Table(c.Structure):
+    _fields_ = [("rows", Row * 32), ("len", size)]
+
+
+class Stored(c.Structure):
+    _fields_ = [("refusal", Refusal), ("table", Table)]
+
+
+class Looked(c.Structure):
+    _fields_ = [("refusal", Refusal), ("found", u8), ("ems", u8)]
+
+
+class Withdrawn(c.Structure):
+    _fields_ = [("refusal", Refusal), ("withdrawn", u8), ("table", Table)]
+
+
+class Held(c.Structure):
+    _fields_ = [("refusal", Refusal), ("count", u8)]
+
+
+class Cleared(c.Structure):
+    _fields_ = [("refusal", Refusal), ("table", Table)]
+
+
+sizeof_table = c.sizeof(Table)
+table_fresh = declare("axle_table_fresh", Table)
+table_store = declare("axle_table_store", Stored, Table, u8, BYTES, u8, BYTES)
+table_look_up = declare("axle_table_look_up", Looked, Table, u8, BYTES, LENT)
+table_withdraw = declare("axle_table_withdraw", Withdrawn, Table, u8, BYTES)
+table_held = declare("axle_table_held", Held, Table, u8)
+table_clear = declare("axle_table_clear", Cleared, Table)

@@ -2,3 +2,4 @@
 mod hash;
 mod hellos;
 mod refusals;
+mod tables;
