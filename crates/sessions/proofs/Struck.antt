@@ -32,17 +32,17 @@ unfolding many isOf
 all-six [] f = refl
 all-six (s ∷ b) f = omega (arith, one-of-six (s .axle) (f .0 .axle-from) (f .0 .axle-to), all-six b (f .1))
 
-fuller-first : (b : Book) (a c : ℕ) → holds a b ≤ holds (fuller b a c) b
+at-least-first : (b : Book) (a c : ℕ) → holds a b ≤ holds (fuller b a c) b
 unfolding fuller
-fuller-first b a c =
+at-least-first b a c =
     ⊎-elim
     (λ (h : ltb (holds a b) (holds c b) ≡ true). rw h (omega (arith, ltb-true (holds a b) (holds c b) h)))
     (λ (h : ltb (holds a b) (holds c b) ≡ false). rw h (omega arith))
     (which (ltb (holds a b) (holds c b)))
 
-fuller-second : (b : Book) (a c : ℕ) → holds c b ≤ holds (fuller b a c) b
+at-least-second : (b : Book) (a c : ℕ) → holds c b ≤ holds (fuller b a c) b
 unfolding fuller
-fuller-second b a c =
+at-least-second b a c =
     ⊎-elim
     (λ (h : ltb (holds a b) (holds c b) ≡ true). rw h (omega arith))
     (λ (h : ltb (holds a b) (holds c b) ≡ false). rw h (omega (arith, ltb-false (holds a b) (holds c b) h)))
@@ -56,7 +56,7 @@ fullest-six b f h =
     let m4 = fuller b m3 4 in
     let m5 = fuller b m4 5 in
     omega
-    (arith, all-six b f, fuller-first b 1 2, fuller-second b 1 2, fuller-first b m2 3, fuller-second b m2 3, fuller-first b m3 4, fuller-second b m3 4, fuller-first b m4 5, fuller-second b m4 5, fuller-first b m5 6, fuller-second b m5 6)
+    (arith, all-six b f, at-least-first b 1 2, at-least-second b 1 2, at-least-first b m2 3, at-least-second b m2 3, at-least-first b m3 4, at-least-second b m3 4, at-least-first b m4 5, at-least-second b m4 5, at-least-first b m5 6, at-least-second b m5 6)
 
 -- the row that is left of b, by which session went
 pub data Struck (a : ℕ) (i : List ℕ) (b : Book) : Book → Type 0 where

@@ -1,4 +1,5 @@
-// The table of 32 sessions.
+// The table of 32 sessions. What its calls promise: specs/Promises.antt. The tender's third condition, over every list of
+// calls: specs/Demand3.antt, proved in proofs/Demand3.antt.
 mod calls;
 mod row;
 mod table;

@@ -57,11 +57,7 @@ part-step-end : tie.Need-part-step-end Inv-loop μ-loop
 part-step-end c = omega arith
 
 step-requires : tie.Need-step-requires Inv-loop μ-loop
-step-requires c κs =
-    let l = c .before .before in
-    let s = c .before .before .before .before .before .before .before .args .script .now in
-    let z : 112 * l .loop .k + 112 - 112 * l .loop .k ≡ 112 = omega arith in
-    rw (z, length-take, length-drop) (omega arith)
+step-requires c κs = rw (length-take, length-drop) (omega arith)
 
 mul-to : tie.Need-mul-to Inv-loop μ-loop
 mul-to c = omega arith
