@@ -84,6 +84,25 @@ AxleDigest axle_hash_digest(AxleHash hash);
 /* The digest of one whole message. 10 where it has more than 1,048,576 bytes. */
 AxleDigested axle_sha256(const uint8_t *message, size_t length);
 
+/* ---- HMAC and the master secrets -------------------------------------------------------------------------------- */
+
+typedef struct {
+    AxleRefusal refusal; /* 0, or 10 */
+    uint8_t tag[32];     /* refused: zeros */
+} AxleTagged;
+
+/* HMAC-SHA-256 of a message (RFC 2104). 10 where key or message has more than 65,536 bytes. */
+AxleTagged axle_hmac(const uint8_t *key, size_t key_length, const uint8_t *message, size_t message_length);
+
+/* The extended master secret (RFC 7627, section 4) to the first 48 bytes of `out`; what stands behind them stays.
+ * 10, with nothing written, where the pre-master secret has not 1 to 512 bytes, the session hash not 32, or `out` under 48. */
+AxleRefusal axle_extended_master_secret(const uint8_t *pre_master, size_t pre_master_length, const uint8_t *session_hash,
+                                        size_t session_hash_length, uint8_t *out, size_t out_length);
+
+/* The master secret of RFC 5246, section 8.1: `randoms` is the client's, then the server's, 64 bytes. Otherwise as above. */
+AxleRefusal axle_master_secret(const uint8_t *pre_master, size_t pre_master_length, const uint8_t *randoms,
+                               size_t randoms_length, uint8_t *out, size_t out_length);
+
 /* ---- Reading a hello -------------------------------------------------------------------------------------------- */
 
 /* A part of the message that was read: `length` bytes from place `at`, counted from the message's first byte. */

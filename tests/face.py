@@ -172,3 +172,15 @@ table_look_up = declare("axle_table_look_up", Looked, Table, u8, BYTES, LENT)
 table_withdraw = declare("axle_table_withdraw", Withdrawn, Table, u8, BYTES)
 table_held = declare("axle_table_held", Held, Table, u8)
 table_clear = declare("axle_table_clear", Cleared, Table)
+
+
+# HMAC and the master secrets
+
+
+class Tagged(c.Structure):
+    _fields_ = [("refusal", Refusal), ("tag", u8 * 32)]
+
+
+hmac = declare("axle_hmac", Tagged, BYTES, BYTES)
+extended_master_secret = declare("axle_extended_master_secret", Refusal, BYTES, BYTES, LENT)
+master_secret = declare("axle_master_secret", Refusal, BYTES, BYTES, LENT)

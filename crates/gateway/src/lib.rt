@@ -2,4 +2,5 @@
 mod hash;
 mod hellos;
 mod refusals;
+mod secrets;
 mod tables;
