@@ -1,0 +1,20 @@
+-- `sha256::words::k` is what its document says, by computation.
+-- Assumes nothing.
+use mathlib.Core.Path.{refl}
+use Rattle.sha256.specs.Constants.{ks}
+use borrow.Author.Needs.{needs}
+use Rattle.sha256.proofs.compress.constant.Statement.{statement}
+use Rattle.sha256.proofs.compress.constant.Tie as tie
+
+mul-result : tie.Need-mul-result
+mul-result c = search needs
+
+array-read-result : tie.Need-array-read-result
+array-read-result c = search needs
+
+returns : tie.Need-returns
+unfolding ks
+returns c = refl
+
+pub constant-spec : {M : Type 1} → statement M
+constant-spec = tie.close (tie.spec mul-result array-read-result returns)
