@@ -1,7 +1,7 @@
 -- The table of turns by the places' numbers, as the code has it, and that the numbers rise along it.
 -- Assumes nothing.
 use mathlib.Core.Path.{_≡_, refl, sym, _∙_, ap}
-use mathlib.Core.Bool.{Bool, true, false, _&&_, false≢true}
+use mathlib.Core.Bool.{Bool, true, false, not, _&&_, false≢true}
 use mathlib.Core.List.{List, [], _∷_}
 use Prim.Native.Nat.{ℕ, suc, _≤_, _<_, zero-le}
 use native.Mathlib.Omega.{arith}
@@ -9,7 +9,7 @@ use lib.Dec.{eqb, ltb}
 use lib.ListN.{List·getD-eq-default}
 use borrow.Author.Tests.{eqb-true, eqb-false, ltb-true}
 use Rattle.seqs.specs.Pick.{pick}
-use Rattle.log.specs.Order.{Place, number, places, placeAt, look, turns}
+use Rattle.log.specs.Order.{Place, number, places, placeAt, look, turns, somewhere, finishedDue}
 use Rattle.log.specs.Order.Place.{beginning, clientHello, serverHello, serverCertificate, serverKeyExchange, certificateRequest, helloDone, helloDoneRequested, clientCertificate, keyExchange, keyExchangeCertified, certificateVerify, clientFirst, completeFull, resumingHello, serverFirst, completeResumed, nowhere}
 
 -- where a type leads in a row, by numbers
@@ -143,3 +143,29 @@ quiet resumes n kind h = by-test (eqb n 13) refl (eqb n 16) refl
     by-test false e false f =
         let g : 17 ≤ n = up 16 n (up 15 n (up 14 n (up 13 n full (eqb-false n 13 e)) (h .0 .1)) (h .1)) (eqb-false n 16 f) in
         rw (List·getD-eq-default places nowhere {n = n} g)
+
+-- a number that is not nowhere's
+pub somewhere-number : (p : Place) → not (eqb (number p) 17) ≡ somewhere p
+unfolding somewhere number
+somewhere-number beginning = refl
+somewhere-number clientHello = refl
+somewhere-number serverHello = refl
+somewhere-number serverCertificate = refl
+somewhere-number serverKeyExchange = refl
+somewhere-number certificateRequest = refl
+somewhere-number helloDone = refl
+somewhere-number helloDoneRequested = refl
+somewhere-number clientCertificate = refl
+somewhere-number keyExchange = refl
+somewhere-number keyExchangeCertified = refl
+somewhere-number certificateVerify = refl
+somewhere-number clientFirst = refl
+somewhere-number completeFull = refl
+somewhere-number resumingHello = refl
+somewhere-number serverFirst = refl
+somewhere-number completeResumed = refl
+somewhere-number nowhere = refl
+
+pub due-number : (p : Place) (r : ℕ) → r ≡ number (look 20 (turns false p)) → not (eqb r 17) ≡ finishedDue p
+unfolding finishedDue
+due-number p r e = rw e (somewhere-number (look 20 (turns false p)))

@@ -1,10 +1,10 @@
 -- The order of a handshake's messages (document 01, 'The message log'), as an automaton on their types (HandshakeType of RFC 5246,
 -- section 7.4).
 -- Assumes nothing.
-use mathlib.Core.Bool.{Bool, true, false}
+use mathlib.Core.Bool.{Bool, true, false, _&&_, _||_}
 use mathlib.Core.List.{List, [], _∷_}
 use Prim.Native.Nat.{ℕ}
-use lib.Dec.{eqb}
+use lib.Dec.{eqb, leb, ltb}
 use lib.ListN.{getD}
 use Rattle.seqs.specs.Pick.{pick}
 
@@ -88,3 +88,32 @@ places =
 
 unfoldable pub placeAt : ℕ → Place
 placeAt n = getD places n nowhere
+
+unfoldable pub somewhere : Place → Bool
+somewhere p = ltb (number p) (number nowhere)
+
+-- is a Finished, type 20, in turn? (What was told counts with a ServerHello alone.)
+unfoldable pub finishedDue : Place → Bool
+finishedDue p = somewhere (look 20 (turns false p))
+
+pub data Side : Type 0 where
+  client server : Side
+
+-- whose Finished is in turn: the server's after the client's in the full order, and after the ServerHello in the resumed one
+unfoldable pub fromServer : Place → Bool
+fromServer p = eqb (number p) (number clientFirst) || eqb (number p) (number resumingHello)
+
+unfoldable pub sideAt : Place → Side
+sideAt p = pick (fromServer p) server client
+
+-- the full order from its ClientKeyExchange on
+unfoldable pub exchanged : Place → Bool
+exchanged p = leb (number keyExchange) (number p) && leb (number p) (number completeFull)
+
+-- both Finished are taken
+unfoldable pub complete : Place → Bool
+complete p = eqb (number p) (number completeFull) || eqb (number p) (number completeResumed)
+
+-- the resumed order
+unfoldable pub resumed : Place → Bool
+resumed p = leb (number resumingHello) (number p) && leb (number p) (number completeResumed)
