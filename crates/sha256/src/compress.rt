@@ -5,6 +5,7 @@ ghost use lib.ListN.{length, take, drop, getD};
 ghost use Rattle.sha256.specs.Constants.{ks, initial};
 ghost use Rattle.sha256.specs.Compress.{schedule, roundOf, rounds, step, output};
 ghost use Rattle.sha256.specs.Sha256.{hashed};
+ghost use Rattle.sha256.specs.declared.compress.State.{State};
 use crate::words::add;
 use crate::words::big0;
 use crate::words::big1;
@@ -94,11 +95,11 @@ const K: [u32; 64] = [
     0xc67178f2,
 ];
 
-fn constant(t: usize) -> u32
-    requires { ⌜ t < 64 ⌝ }
-    ensures { λ r. ⌜ r ≡ getD ks t 0 ⌝ }
+// The constants, copied out once for all the rounds of a block.
+fn constants() -> [u32; 64]
+    ensures { λ r. ⌜ r ≡ ks ⌝ }
 {
-    K[t]
+    K
 }
 
 // The 64 words of the block that starts at index at.
@@ -160,14 +161,30 @@ impl State {
         }
     }
 
+    // Eight rounds bring each of the eight words back to its place: the compiler keeps them in registers and moves none.
+    fn eight_rounds(self, k: &[u32; 64], w: &[u32; 64], t: usize) -> State
+        requires { ⌜ (t + 8 ≤ 64) × (now k ≡ ks) ⌝ }
+        ensures { λ r. ⌜ ((s : State) → self ≡ rounds t s (now (w .entry)) → r ≡ rounds (t + 8) s (now (w .entry))) ⌝ }
+    {
+        let r = self.round(k[t], w[t]);
+        let r = r.round(k[t + 1], w[t + 1]);
+        let r = r.round(k[t + 2], w[t + 2]);
+        let r = r.round(k[t + 3], w[t + 3]);
+        let r = r.round(k[t + 4], w[t + 4]);
+        let r = r.round(k[t + 5], w[t + 5]);
+        let r = r.round(k[t + 6], w[t + 6]);
+        r.round(k[t + 7], w[t + 7])
+    }
+
     fn all_rounds(self, w: &[u32; 64]) -> State
         ensures { λ r. ⌜ r ≡ rounds 64 self (now (w .entry)) ⌝ }
     {
+        let k = constants();
         let mut v = self;
         let mut t = 0;
         while t < 64 {
-            v = v.round(constant(t), w[t]);
-            t += 1;
+            v = v.eight_rounds(&k, w, t);
+            t += 8;
         }
         v
     }

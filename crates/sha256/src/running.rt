@@ -35,74 +35,6 @@ pub struct Digested {
 // The most bytes that one hash takes from fresh.
 const MOST: u64 = 1048576;
 
-// A one bit and zeros, from which the padding is cut.
-const ONE_BIT: [u8; 64] = [
-    128,
-    0,
-    0,
-    0,
-    0,
-    0,
-    0,
-    0,
-    0,
-    0,
-    0,
-    0,
-    0,
-    0,
-    0,
-    0,
-    0,
-    0,
-    0,
-    0,
-    0,
-    0,
-    0,
-    0,
-    0,
-    0,
-    0,
-    0,
-    0,
-    0,
-    0,
-    0,
-    0,
-    0,
-    0,
-    0,
-    0,
-    0,
-    0,
-    0,
-    0,
-    0,
-    0,
-    0,
-    0,
-    0,
-    0,
-    0,
-    0,
-    0,
-    0,
-    0,
-    0,
-    0,
-    0,
-    0,
-    0,
-    0,
-    0,
-    0,
-    0,
-    0,
-    0,
-    0,
-];
-
 // n bytes of b, from index from, at index at of the tail.
 fn filled(t: [u8; 64], at: usize, b: &[u8], from: usize, n: usize) -> [u8; 64]
     requires { ⌜ (at + n ≤ 64) × (from + n ≤ length (now b)) ⌝ }
@@ -174,10 +106,10 @@ impl Hash {
         }
         let block = filled(waiting, at, bytes, 0, 64 - at);
         let first = state.compress(&block, 0);
-        let next = first.blocks(bytes, 64 - at);
+        let rest = first.blocks(bytes, 64 - at);
         let tail = filled(waiting, 0, bytes, n - left, left);
         Hash {
-            state: next,
+            state: rest,
             tail,
             length,
         }
@@ -213,10 +145,11 @@ impl Hash {
             return [0; 32];
         }
         let at = (self.length % 64) as usize;
-        let ones = ONE_BIT;
+        let mut bit = [0u8; 64];
+        bit[0] = 128;
         let end = big_endian(self.length * 8);
-        let bit = self.more(&ones[..(119 - at) % 64 + 1]);
-        let last = bit.more(&end);
+        let padded = self.more(&bit[..(119 - at) % 64 + 1]);
+        let last = padded.more(&end);
         let state = last.state;
         state.output()
     }

@@ -15,20 +15,23 @@ use Rattle.sha256.proofs.running.Hash.digest.Tie as tie
 returns : tie.Need-returns
 returns c m h = absurd (omega (arith, h .holds .taken, h .bounded))
 
+array-write-bit : tie.Need-array-write-bit
+array-write-bit c = search needs
+
 mul-big-endian : tie.Need-mul-big-endian
 mul-big-endian c = search needs
 
 big-endian-requires : tie.Need-big-endian-requires
 big-endian-requires c κs = search needs
 
-sub-ones : tie.Need-sub-ones
-sub-ones c = search needs
+sub-bit : tie.Need-sub-bit
+sub-bit c = search needs
 
-add-ones : tie.Need-add-ones
-add-ones c = search needs
+add-bit : tie.Need-add-bit
+add-bit c = search needs
 
-array-share-prefix-ones : tie.Need-array-share-prefix-ones
-array-share-prefix-ones c = search needs
+array-share-prefix-bit : tie.Need-array-share-prefix-bit
+array-share-prefix-bit c = search needs
 
 slice-aggregate-more : tie.Need-slice-aggregate-more
 slice-aggregate-more c = sym (length-take-le ((119 - c .before .before .before .before .before .before .args .self .length % 64) % 64 + 1) one-bit (omega arith))
@@ -66,11 +69,12 @@ digest-spec =
     tie.close
     (tie.spec
     returns
+    array-write-bit
     mul-big-endian
     big-endian-requires
-    sub-ones
-    add-ones
-    array-share-prefix-ones
+    sub-bit
+    add-bit
+    array-share-prefix-bit
     slice-aggregate-more
     more-requires
     slice-aggregate-more-2
