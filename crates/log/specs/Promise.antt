@@ -4,21 +4,16 @@
 use mathlib.Core.Path.{_≡_}
 use mathlib.Core.Bool.{Bool}
 use mathlib.Core.List.{List}
-use Prim.Native.Nat.{ℕ, _≤_}
+use Prim.Native.Nat.{ℕ}
 use lib.ListN.{replicate}
 use Rattle.refusal.specs.Table.{refusalOf}
-use Rattle.refusal.specs.declared.Refusal.{Refusal}
+use Rattle.refusal.specs.Listed.{Listed}
 use Rattle.log.specs.History.{History}
 use Rattle.log.specs.Calls.{acceptNumber, afterAccept, sessionHashOf}
 use Rattle.log.specs.Stands.{Stands}
 use Rattle.log.specs.declared.state.Log.{Log}
 use Rattle.log.specs.declared.answers.Accepted.{Accepted}
 use Rattle.log.specs.declared.answers.SessionHash.{SessionHash}
-
--- a row of document 01's table
-pub record Listed (r : Refusal) : Type 0 where
-  pub within : r .number ≤ 11
-  pub row : r ≡ refusalOf (r .number)
 
 pub record Accepts (log : Log) (m : List ℕ) (resumes : Bool) (r : Accepted) : Type 0 where
   pub listed : Listed (r .refusal)
