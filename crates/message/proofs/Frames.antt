@@ -87,3 +87,7 @@ module _ (m : List ℕ) where
           let b : framed m ≡ Refused (refusalOf 1) = by-tests false true p q in
           rw (p, q) (cc, λ z. omega arith)
       go false false p q = let b = by-tests false false p q in let z : _≡_ {A = ℕ} 0 1 = cc in absurd (omega arith)
+
+  pub stated-long : misstated m ≡ false → 4 ≤ length m
+  unfolding misstated
+  stated-long q = ltb-false (length m) 4 (or-left _ _ q)
