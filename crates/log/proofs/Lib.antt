@@ -3,4 +3,5 @@ pub mod Messages
 pub mod Standing
 pub mod Accepting
 pub mod Asking
+pub mod Checking
 pub mod Orders
