@@ -3,7 +3,7 @@
 use mathlib.Core.List.{List, [], _∷_, _++_}
 use Prim.Native.Nat.{ℕ, zero, suc, _%_, _<_}
 use native.Mathlib.Omega.{arith}
-use lib.ListN.{getD}
+use lib.ListN.{take, getD}
 use Rattle.seqs.specs.Tab.{tab}
 use Rattle.seqs.specs.Padding.{ByteOrder, inBytes}
 
@@ -21,6 +21,12 @@ pub bytes-append : (a b : List ℕ) → Bytes a → Bytes b → Bytes (a ++ b)
 bytes-append [] b p q i = q i
 bytes-append (x ∷ xs) b p q zero = p 0
 bytes-append (x ∷ xs) b p q (suc i) = bytes-append xs b (λ j. p (suc j)) q i
+
+pub bytes-take : (n : ℕ) (l : List ℕ) → Bytes l → Bytes (take n l)
+bytes-take zero l p i = omega arith
+bytes-take (suc n) [] p i = omega arith
+bytes-take (suc n) (x ∷ xs) p zero = p 0
+bytes-take (suc n) (x ∷ xs) p (suc i) = bytes-take n xs (λ j. p (suc j)) i
 
 pub bytes-tab : (n : ℕ) (f : ℕ → ℕ) → ((i : ℕ) → f i < 256) → Bytes (tab n f)
 unfolding tab
