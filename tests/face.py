@@ -1,0 +1,174 @@
+"""The C face (include/axle_gateway.h) for Python: ctypes over target/c/libaxle_gateway.so."""
+
+import ctypes as c
+import pathlib
+
+LIB = c.CDLL(str(pathlib.Path(__file__).resolve().parent.parent / "target/c/libaxle_gateway.so"))
+
+u8, u16, u32, u64, size = c.c_uint8, c.c_uint16, c.c_uint32, c.c_uint64, c.c_size_t
+BYTES = (c.c_char_p, size)  # a lent slice to read: pointer and length
+LENT = (c.c_void_p, size)  # a lent slice to write to, made by lend()
+
+
+def lend(data):
+    """A buffer of our own with these bytes in it."""
+    return (u8 * len(data)).from_buffer_copy(data) if data else (u8 * 0)()
+
+
+def plain(value):
+    """A struct as nested tuples and bytes, without the padding between its fields."""
+    if isinstance(value, c.Structure):
+        return tuple(plain(getattr(value, name)) for name, _ in value._fields_)
+    if isinstance(value, c.Array):
+        return bytes(value) if value._type_ is u8 else tuple(plain(v) for v in value)
+    return value
+
+
+def zeros(kind):
+    """The struct of that kind with all fields zero, as plain() has it."""
+    return plain(kind())
+
+
+class Refusal(c.Structure):
+    _fields_ = [("number", u8), ("level", u8), ("code", u8)]
+
+    def plain(self):
+        return self.number, self.level, self.code
+
+
+CALLS = {}  # every call that is declared here: its function and the kinds of its arguments
+
+
+def declare(name, answer, *arguments):
+    """A function of the library; a lent slice takes two places, and a call passes the bytes or the buffer alone."""
+    f = getattr(LIB, name)
+    f.restype = answer
+    f.argtypes = [t for a in arguments for t in (a if isinstance(a, tuple) else (a,))]
+
+    CALLS[name] = f, arguments
+
+    def call(*given):
+        passed = []
+        for a, g in zip(arguments, given, strict=True):
+            passed += [g, len(g)] if isinstance(a, tuple) else [g]
+        return f(*passed)
+
+    return call
+
+
+refusal = declare("axle_refusal", Refusal, u8)
+
+
+# SHA-256
+
+
+class Hash(c.Structure):
+    _fields_ = [("state", u32 * 8), ("tail", u8 * 64), ("length", u64)]
+
+
+class Absorbed(c.Structure):
+    _fields_ = [("refusal", Refusal), ("hash", Hash)]
+
+
+class Digest(c.Structure):
+    _fields_ = [("bytes", u8 * 32)]
+
+
+class Digested(c.Structure):
+    _fields_ = [("refusal", Refusal), ("digest", u8 * 32)]
+
+
+sizeof_hash = c.sizeof(Hash)
+hash_fresh = declare("axle_hash_fresh", Hash)
+hash_absorb = declare("axle_hash_absorb", Absorbed, Hash, BYTES)
+hash_digest = declare("axle_hash_digest", Digest, Hash)
+sha256 = declare("axle_sha256", Digested, BYTES)
+
+
+# Reading a hello
+
+
+class Part(c.Structure):
+    _fields_ = [("at", size), ("length", size)]
+
+    def of(self, message):
+        return message[self.at : self.at + self.length]
+
+
+class Extensions(c.Structure):
+    _fields_ = [("block", u8), ("list", Part), ("indicated", u8), ("indication", Part), ("ems", u8), ("others", u8)]
+
+
+class ClientHello(c.Structure):
+    _fields_ = [
+        ("version", u16),
+        ("random", Part),
+        ("identifier", Part),
+        ("suites", Part),
+        ("methods", Part),
+        ("signal", u8),
+        ("extensions", Extensions),
+    ]
+
+
+class ServerHello(c.Structure):
+    _fields_ = [
+        ("version", u16),
+        ("random", Part),
+        ("identifier", Part),
+        ("suite", u16),
+        ("compression", u8),
+        ("extensions", Extensions),
+    ]
+
+
+class ClientReading(c.Structure):
+    _fields_ = [("refusal", Refusal), ("hello", ClientHello)]
+
+
+class ServerReading(c.Structure):
+    _fields_ = [("refusal", Refusal), ("hello", ServerHello)]
+
+
+read_client_hello = declare("axle_read_client_hello", ClientReading, BYTES)
+read_server_hello = declare("axle_read_server_hello", ServerReading, BYTES)
+
+
+# The session table
+
+
+class Row(c.Structure):
+    _fields_ = [("axle", u8), ("ems", u8), ("size", u8), ("identifier", u8 * 32), ("secret", u8 * 48)]
+
+
+class Table(c.Structure):
+    _fields_ = [("rows", Row * 32), ("len", size)]
+
+
+class Stored(c.Structure):
+    _fields_ = [("refusal", Refusal), ("table", Table)]
+
+
+class Looked(c.Structure):
+    _fields_ = [("refusal", Refusal), ("found", u8), ("ems", u8)]
+
+
+class Withdrawn(c.Structure):
+    _fields_ = [("refusal", Refusal), ("withdrawn", u8), ("table", Table)]
+
+
+class Held(c.Structure):
+    _fields_ = [("refusal", Refusal), ("count", u8)]
+
+
+class Cleared(c.Structure):
+    _fields_ = [("refusal", Refusal), ("table", Table)]
+
+
+sizeof_table = c.sizeof(Table)
+table_fresh = declare("axle_table_fresh", Table)
+table_store = declare("axle_table_store", Stored, Table, u8, BYTES, u8, BYTES)
+table_look_up = declare("axle_table_look_up", Looked, Table, u8, BYTES, LENT)
+table_withdraw = declare("axle_table_withdraw", Withdrawn, Table, u8, BYTES)
+table_held = declare("axle_table_held", Held, Table, u8)
+table_clear = declare("axle_table_clear", Cleared, Table)
