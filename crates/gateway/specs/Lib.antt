@@ -1,1 +1,2 @@
 pub mod Hellos
+pub mod Completion
