@@ -20,5 +20,13 @@ pub extern "C" fn axle_decide_client(
 ) -> Decision
     ensures { λ r. ⌜ r ≡ clientDecision (readServer (now (message .entry))) (now (offered .entry)) (lentOf (yes session) (now (identifier .entry)) (yes ems)) connection switches ⌝ }
 {
-    decision::decide_client(message, offered, session != 0, identifier, ems != 0, connection, switches)
+    decision::decide_client(
+        message,
+        offered,
+        session != 0,
+        identifier,
+        ems != 0,
+        connection,
+        switches,
+    )
 }
