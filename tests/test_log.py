@@ -67,12 +67,12 @@ def copied(pair):
     return Pair(type(pair.log).from_buffer_copy(pair.log), o)
 
 
-def test_every_order_to_length_7():
-    """Each order of types up to length 7, told and not told of resuming. A refused message leaves the log as it was (that
-    is compared too), so orders that differ only in refused messages are followed once. A due Finished is also taken
-    after a check."""
-    seen, frontier, steps = set(), [Pair()], 0
-    for _ in range(7):
+def test_every_order():
+    """Each order of types, of any length, told and not told of resuming: every situation that can be reached is met, and in
+    each of them every type is tried. A refused message leaves the log as it was (that is compared too), so orders that
+    differ only in refused messages need not be followed twice. A due Finished is also taken after a check."""
+    seen, frontier, steps, longest = set(), [Pair()], 0, 0
+    while frontier:
         following = []
         for pair in frontier:
             for kind, told in itertools.product(TYPES, (False, True)):
@@ -88,9 +88,11 @@ def test_every_order_to_length_7():
                 if p.state() not in seen:
                     seen.add(p.state())
                     following.append(p)
+        longest += bool(following)
         frontier = following
-    assert any(p.oracle.word == "abSC" for p in frontier) or any("abSC" == s[0] for s in seen)
-    return f"{steps} steps, {len(seen)} situations"
+    complete = {s[0] for s in seen if s[0].endswith(("CS", "SC"))}
+    assert len(complete) == 13 and longest >= 11  # twelve full orders and the resumed one
+    return f"{steps} steps, {len(seen)} situations, orders of up to {longest} messages"
 
 
 def test_told_counts_only_with_the_server_hello():
@@ -112,7 +114,7 @@ def test_case_of_document_01():
     assert p.accept(hellos.message(20, bytes(12))) == 7
     p = Pair()
     assert p.accept(hellos.message(0, b"")) == 0
-    assert p.oracle.hashed == b""
+    assert p.oracle.hashed == b"" and face.plain(p.log.hash) == face.plain(face.log_fresh().hash)
 
 
 def in_turn(r, p, choices=(1, 2, 11, 12, 13, 14, 15, 16)):

@@ -1,18 +1,14 @@
 -- Completion by its tests, and what every outcome of it has in common.
 -- Assumes nothing.
-use mathlib.Core.Path.{_≡_, refl, sym, _∙_, ap, ap₂}
-use mathlib.Core.Bool.{Bool, true, false, not}
-use mathlib.Core.List.{[], _∷_}
-use mathlib.Core.Logic.{_⊎_, inl, inr}
-use Prim.Native.Nat.{ℕ, _≤_}
-use native.Mathlib.Omega.{arith}
+use mathlib.Core.Path.{_≡_, _∙_, ap}
+use Prim.Native.Nat.{ℕ}
 use lib.Dec.{eqb}
 use borrow.Author.Tests.{eq-eqb, ne-eqb}
 use Rattle.seqs.specs.Pick.{pick}
 use Rattle.seqs.specs.Flag.{yes, bit}
 use Rattle.refusal.specs.First.{firstOf}
 use Rattle.refusal.specs.Table.{refusalOf}
-use Rattle.refusal.specs.Listed.{listed, row-number}
+use Rattle.refusal.specs.Listed.{row-number}
 use Rattle.refusal.specs.declared.Refusal.{Refusal}
 use Rattle.log.specs.History.{History}
 use Rattle.log.specs.Calls.{finishedOf}
@@ -53,37 +49,21 @@ module _ (c : Connection) (f : Finished) (d : Decision) where
   unfolding completedOf completeNumber firstOf
   agreeing h k l = rw (ne-eqb (f .complete) 0 h, eq-eqb (d .refusal .number) 0 k, eq-eqb (bit (yes (f .resumed))) (bit (yes (d .resumes))) l)
 
--- the number is 0 or 7
-seven : (a b c : Bool) → (firstOf ((7, a) ∷ (7, b) ∷ (7, c) ∷ []) ≡ 0) ⊎ (firstOf ((7, a) ∷ (7, b) ∷ (7, c) ∷ []) ≡ 7)
-unfolding firstOf
-seven true b c = inr refl
-seven false true c = inr refl
-seven false false true = inr refl
-seven false false false = inl refl
-
-zero-or-seven : (f : Finished) (d : Decision) → (completeNumber f d ≡ 0) ⊎ (completeNumber f d ≡ 7)
-unfolding completeNumber
-zero-or-seven f d = seven _ _ _
-
 -- what completion promises, of an outcome that is the definition's
 module _ (c : Connection) (log : Log) (f : Finished) (d : Decision) where
   kept : (n : ℕ) → (refusalOf n .number ≡ 0 → ⊥) → pick (eqb n 0) (completedRecord f d) c ≡ c
   kept n h = rw (ne-eqb n 0 (λ z. h (row-number n ∙ z)))
 
-  bounded : (n : ℕ) → (n ≡ 0) ⊎ (n ≡ 7) → n ≤ 11
-  bounded n (inl z) = omega arith
-  bounded n (inr z) = omega arith
-
   pub completes : (r : Completed) → r ≡ completedOf c f d → ((h : History) → Stands log h → f ≡ finishedOf h)
       → Completes c log d (r .refusal) (r .connection)
   unfolding completedOf
   completes r e s =
-      let n = completeNumber f d in
       let i = ap (λ (x : Completed). x .refusal) e in
       let j = ap (λ (x : Completed). x .connection) e in
       record {
-        listed = listed n (r .refusal) i (bounded n (zero-or-seven f d));
-        kept = λ h. j ∙ kept n (λ z. h (ap (λ (x : Refusal). x .number) i ∙ z));
-        refusal = λ h t. i ∙ ap (λ (g : Finished). completedOf c g d .refusal) (s h t);
-        connection = λ h t. j ∙ ap (λ (g : Finished). completedOf c g d .connection) (s h t);
+        finished = f;
+        refusal = i;
+        connection = j;
+        kept = λ h. j ∙ kept (completeNumber f d) (λ z. h (ap (λ (x : Refusal). x .number) i ∙ z));
+        stands = s;
       }

@@ -1,15 +1,14 @@
 -- Completion (document 01, 'The message log'): the one place where a connection record changes.
 -- Assumes nothing.
 use mathlib.Core.Path.{_≡_}
-use mathlib.Core.Bool.{Bool, true, false, not}
-use mathlib.Core.List.{List, [], _∷_}
-use Prim.Native.Nat.{ℕ, _≤_}
+use mathlib.Core.Bool.{not}
+use mathlib.Core.List.{[], _∷_}
+use Prim.Native.Nat.{ℕ}
 use lib.Dec.{eqb}
 use Rattle.seqs.specs.Pick.{pick}
 use Rattle.seqs.specs.Flag.{yes, bit}
 use Rattle.refusal.specs.First.{firstOf}
 use Rattle.refusal.specs.Table.{refusalOf}
-use Rattle.refusal.specs.Listed.{Listed}
 use Rattle.refusal.specs.declared.Refusal.{Refusal}
 use Rattle.log.specs.History.{History}
 use Rattle.log.specs.Calls.{finishedOf}
@@ -48,10 +47,11 @@ completedOf c f d =
       connection = pick (eqb (completeNumber f d) 0) (completedRecord f d) c;
     }
 
--- what completion promises: of every log that the number is 0 or 7 and that a refused call leaves the record; of a log that stands for a
--- history, the number and the record of the definition
+-- what completion promises: number and record are the definition's for what the log says of its Finished. Of a log that stands for a
+-- history that is `finishedOf`; of any other struct value it is something, so that the number is 0 or 7 and 7 leaves the record.
 pub record Completes (was : Connection) (log : Log) (d : Decision) (r : Refusal) (after : Connection) : Type 0 where
-  pub listed : Listed r
+  pub finished : Finished
+  pub refusal : r ≡ completedOf was finished d .refusal
+  pub connection : after ≡ completedOf was finished d .connection
   pub kept : (r .number ≡ 0 → ⊥) → after ≡ was
-  pub refusal : (h : History) → Stands log h → r ≡ completedOf was (finishedOf h) d .refusal
-  pub connection : (h : History) → Stands log h → after ≡ completedOf was (finishedOf h) d .connection
+  pub stands : (h : History) → Stands log h → finished ≡ finishedOf h

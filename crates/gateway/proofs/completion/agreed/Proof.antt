@@ -1,6 +1,6 @@
 -- Completion goes by three tests, as `completeNumber` does.
 -- Assumes nothing.
-use mathlib.Core.Path.{_≡_, sym, _∙_}
+use mathlib.Core.Path.{sym, _∙_}
 use Rattle.gateway.proofs.Completing.{incomplete, undecided, disagreeing, agreeing}
 use borrow.Author.Needs.{needs}
 use Rattle.gateway.proofs.completion.agreed.Statement.{statement}
