@@ -4,3 +4,4 @@ pub mod Replying
 pub mod Judging
 pub mod Asking
 pub mod Telling
+pub mod Serving

@@ -1,14 +1,18 @@
 -- Document 01, 'Server's decision'.
 -- Assumes nothing.
-use mathlib.Core.Bool.{Bool, true, false, not, _&&_, _||_}
+use mathlib.Core.Path.{_≡_}
+use mathlib.Core.Bool.{Bool, true, false, not, _||_}
 use mathlib.Core.List.{List, [], _∷_}
 use mathlib.Core.Option.{Option, none, some}
 use Prim.Native.Nat.{ℕ}
-use lib.Dec.{eqb, leb, ltb}
+use lib.Dec.{eqb, ltb}
 use lib.ListN.{length}
 use Rattle.seqs.specs.Pick.{pick}
 use Rattle.refusal.specs.First.{firstOf}
 use Rattle.octets.specs.Put.{putList}
+use Rattle.sessions.specs.Book.{Session, Book, sought, badAxle}
+use Rattle.sessions.specs.Keeps.{Keeps}
+use Rattle.sessions.specs.declared.table.Table.{Table}
 use Rattle.hello.specs.Extensions.{indicationOf, emsOf}
 use Rattle.hello.specs.Fields.{Reading, fields, fault, signalIn}
 use Rattle.decision.specs.Connection.{later, closed, present, saying, wrongFirst, legacyFull, legacyResumption, Outcome, fullEms, fullLegacy, resumedEms, resumedLegacy, allowed, forbidden, withEms, decision}
@@ -36,9 +40,14 @@ abbrev pub faultOf : Reading → ℕ
 faultOf (fields h) = 0
 faultOf (fault n) = n
 
--- 11: 'axle not 1 to 6'
-unfoldable pub badAxle : ℕ → Bool
-badAxle a = not (leb 1 a && leb a 6)
+-- 'The hello's identifier, if not empty, is looked up for its axle': the EMS of the session found, or none
+abbrev pub emsFound : Option Session → Option Bool
+emsFound none = none
+emsFound (some s) = some (s .ems)
+
+unfoldable pub sessionIn : ℕ → Reading → Book → Option Bool
+sessionIn axle (fields h) b = pick (eqb (length (h .identifier)) 0) none (emsFound (sought axle (h .identifier) b))
+sessionIn axle (fault n) b = none
 
 -- 5. First handshake: as of either side, where the signal stands for an empty RI. Later: 'the signal present is 5, RI missing
 -- is 5, RI other than the saved client verify_data is 5'
@@ -81,3 +90,16 @@ serverDecision axle r k c s out =
 -- 'Output beyond the reply is untouched.'
 unfoldable pub serverOutput : ℕ → Reading → Option Bool → Connection → Switches → List ℕ → List ℕ
 serverOutput axle r k c s out = pick (eqb (serverNumber axle r k c s out) 0) (putList out (serverReply c s k (asked r))) out
+
+-- What the call promises: the answer, and what the lent output then holds, are those of a book
+pub record Decided (axle : ℕ) (r : Reading) (b : Book) (c : Connection) (s : Switches) (out : List ℕ) (d : Decision) (out′ : List ℕ) : Type 0 where
+  pub answer : d ≡ serverDecision axle r (sessionIn axle r b) c s out
+  pub output : out′ ≡ serverOutput axle r (sessionIn axle r b) c s out
+
+-- of a table t whatever it is, and of the book that it keeps
+pub record ServerDecides (t : Table) (axle : ℕ) (r : Reading) (c : Connection) (s : Switches) (out : List ℕ) (d : Decision) (out′ : List ℕ) : Type 0 where
+  pub row : Book
+  pub of-row : Decided axle r row c s out d out′
+  -- refused: nothing is written
+  pub refused : (d .refusal .number ≡ 0 → ⊥) → out′ ≡ out
+  pub answers : (b : Book) → Keeps t b → Decided axle r b c s out d out′

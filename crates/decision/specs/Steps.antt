@@ -13,9 +13,14 @@ use Rattle.refusal.specs.First.{firstOf}
 use Rattle.refusal.specs.declared.Refusal.{Refusal}
 use Rattle.decision.specs.Connection.{later, closed, saying, wrongFirst, forbidden, Outcome, fullEms, fullLegacy, resumedEms, resumedLegacy, refusedBy, decided, decision}
 use Rattle.decision.specs.Reply.{replyOf}
-use Rattle.decision.specs.Server.{Asked, serverWrong, serverFlag, serverOutcome, serverReply}
+use Rattle.decision.specs.Server.{Asked, sessionIn, serverWrong, serverFlag, serverOutcome, serverReply}
 use Rattle.decision.specs.Client.{Told, Lent, clientWrong, clientFlag, clientResumes, resumption, fullness}
-use Rattle.hello.specs.Fields.{readClient, readServer}
+use Rattle.hello.specs.Fields.{Reading, readClient, readServer}
+use Rattle.sessions.specs.Book.{Book}
+use Rattle.sessions.specs.Keeps.{Keeps}
+use Rattle.sessions.specs.declared.table.Table.{Table}
+use Rattle.sessions.specs.declared.calls.Known.{Known}
+use Rattle.sessions.specs.declared.calls.Known.the-variants as known
 use Rattle.hello.specs.Places.{clientAnswer, serverAnswer}
 use Rattle.hello.specs.declared.client.ClientHello.{ClientHello}
 use Rattle.hello.specs.declared.client.ClientRead.the-variants as client
@@ -122,3 +127,19 @@ toldNumber c s i e t =
 
 unfoldable pub clientPlain : Connection → Switches → List ℕ → Bool → Told → Decision
 clientPlain c s i e t = decision (toldNumber c s i e t) (toldOutcome s i e t) (clientFlag c t) 0
+
+abbrev pub isSome : Option Bool → Bool
+isSome none = false
+isSome (some e) = true
+
+-- what the table knows of a session
+abbrev pub emsKnown : Known → Option Bool
+emsKnown known.Nothing = none
+emsKnown known.WithoutEms = some false
+emsKnown known.WithEms = some true
+
+-- the session of a hello, as some row has it and as the book that t keeps has it
+pub record SessionIs (t : Table) (axle : ℕ) (r : Reading) (k : Known) : Type 0 where
+  pub row : Book
+  pub of-row : emsKnown k ≡ sessionIn axle r row
+  pub answers : (b : Book) → Keeps t b → emsKnown k ≡ sessionIn axle r b

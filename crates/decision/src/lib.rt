@@ -10,3 +10,4 @@ pub use client::decide_client;
 pub use connection::Connection;
 pub use connection::Decision;
 pub use connection::Switches;
+pub use server::decide_server;
