@@ -219,6 +219,48 @@ AxleHeld axle_table_held(AxleTable table, uint8_t axle);
 /* Empties the table. */
 AxleCleared axle_table_clear(AxleTable table);
 
+/* ---- Decisions -------------------------------------------------------------------------------------------------- */
+
+/* The connection record. Fresh: all zero. Only axle_complete alters it. */
+typedef struct {
+    uint8_t completed;  /* a handshake has completed */
+    uint8_t indication; /* secure renegotiation is indicated (RFC 5746) */
+    uint8_t barred;     /* no renegotiation after a legacy resumption */
+    uint8_t client[12]; /* the client's verify_data of the last handshake */
+    uint8_t server[12]; /* the server's */
+} AxleConnection;
+
+typedef struct {
+    uint8_t indication_required; /* refuse a first handshake without the renegotiation indication */
+    uint8_t legacy_full;         /* allow a full handshake without extended_master_secret */
+    uint8_t legacy_resumption;   /* allow a resumption without it */
+} AxleSwitches;
+
+typedef struct {
+    AxleRefusal refusal; /* refused: all else is zero */
+    uint8_t resumes;     /* an abbreviated handshake; else a full one */
+    uint8_t ems;         /* with extended_master_secret; else a legacy outcome */
+    uint8_t indication;  /* the flag that completion will write */
+    uint8_t bar;         /* the renegotiation bar that completion will write */
+    uint8_t bars_export; /* key export is barred */
+    uint8_t bars_verify_data; /* verify_data is barred for other uses */
+    size_t reply_length; /* how many bytes of reply were written; 0 on the client's side */
+} AxleDecision;
+
+/* The server's decision on a ClientHello of this axle. The reply, which is the extension block of our ServerHello (with its
+ * 2-byte length, or nothing at all), goes to the front of `out`; what stands behind it stays. 11 for the axle; 10, 1, 2, 3
+ * for the hello; 9 or 5 for renegotiation; 6 for the master secret rule; last 10 where `out` is shorter than this reply. */
+AxleDecision axle_decide_server(const uint8_t *message, size_t length, uint8_t axle, AxleTable table, AxleConnection connection,
+                                AxleSwitches switches, uint8_t *out, size_t out_length);
+
+/* The client's decision on a ServerHello that answers our own hello: `offered` is the identifier that it offered, empty for
+ * none, and `session` tells whether a session is lent along, with its own `identifier` and `ems`. 11 for an offer over 32
+ * bytes or without a session that bears it; 10, 1, 2, 3, 4 for the hello; 7 or 5 for renegotiation; 6 for the master secret
+ * rule. */
+AxleDecision axle_decide_client(const uint8_t *message, size_t length, const uint8_t *offered, size_t offered_length,
+                                uint8_t session, const uint8_t *identifier, size_t identifier_length, uint8_t ems,
+                                AxleConnection connection, AxleSwitches switches);
+
 /* ---- The message log -------------------------------------------------------------------------------------------- */
 
 /* The transcript of one handshake: whose turn it is, and its running hash. */
@@ -270,6 +312,13 @@ AxleChecked axle_log_check_finished(AxleLog log, const uint8_t *secret, size_t s
 
 /* verify_data of the Finished that is due. 10 for a secret not of 48 bytes, 7 where none is due. */
 AxleExpected axle_log_expected_finished(AxleLog log, const uint8_t *secret, size_t secret_length);
+
+/* ---- Completion ------------------------------------------------------------------------------------------------- */
+
+/* Both Finished are taken: writes to the record, where it stands, completed, the decision's flag and bar, and both
+ * verify_data values. 7, with the record as it was, earlier, with a refused decision, or where decision and log disagree
+ * on resuming. */
+AxleRefusal axle_complete(AxleConnection *connection, AxleLog log, AxleDecision decision);
 
 #ifdef __cplusplus
 }

@@ -3,6 +3,8 @@
 import ctypes as c
 import pathlib
 
+from oracle import decision as oracle
+
 LIB = c.CDLL(str(pathlib.Path(__file__).resolve().parent.parent / "target/c/libaxle_gateway.so"))
 
 u8, u16, u32, u64, size = c.c_uint8, c.c_uint16, c.c_uint32, c.c_uint64, c.c_size_t
@@ -223,3 +225,54 @@ log_accept = declare("axle_log_accept", Accepted, Log, BYTES, u8)
 log_session_hash = declare("axle_log_session_hash", SessionHash, Log)
 log_check_finished = declare("axle_log_check_finished", Checked, Log, BYTES, BYTES)
 log_expected_finished = declare("axle_log_expected_finished", Expected, Log, BYTES)
+
+
+# Decisions and completion
+
+
+class Connection(c.Structure):
+    _fields_ = [("completed", u8), ("indication", u8), ("barred", u8), ("client", u8 * 12), ("server", u8 * 12)]
+
+
+class Switches(c.Structure):
+    _fields_ = [("indication_required", u8), ("legacy_full", u8), ("legacy_resumption", u8)]
+
+
+class Decision(c.Structure):
+    _fields_ = [
+        ("refusal", Refusal),
+        ("resumes", u8),
+        ("ems", u8),
+        ("indication", u8),
+        ("bar", u8),
+        ("bars_export", u8),
+        ("bars_verify_data", u8),
+        ("reply_length", size),
+    ]
+
+
+decide_server = declare("axle_decide_server", Decision, BYTES, u8, Table, Connection, Switches, LENT)
+decide_client = declare("axle_decide_client", Decision, BYTES, BYTES, u8, BYTES, u8, Connection, Switches)
+complete = declare("axle_complete", Refusal, c.POINTER(Connection), Log, Decision)
+
+
+def connection(record):
+    """The second program's record as a struct."""
+    return Connection(record.completed, record.indication, record.barred, (u8 * 12)(*record.client), (u8 * 12)(*record.server))
+
+
+def switches(s):
+    return Switches(s.indication_required, s.legacy_full, s.legacy_resumption)
+
+
+def plain_decision(d):
+    """(refusal, the second program's decision, length of the reply)"""
+    flags = (d.resumes, d.ems, d.indication, d.bar, d.bars_export, d.bars_verify_data)
+    assert all(f in (0, 1) for f in flags)
+    return d.refusal.plain(), oracle.Decision(d.refusal.number, *map(bool, flags)), d.reply_length
+
+
+def decision(d):
+    """The second program's decision as a struct."""
+    flags = (d.resumes, d.ems, d.indication, d.bar, d.bars_export, d.bars_verify_data)
+    return Decision(refusal(d.number), *flags, 0)

@@ -23,3 +23,13 @@ def test_sha256_refuses_what_is_too_long():
         file.flush()
         run = subprocess.run([BUILT / "sha256", file.name], capture_output=True, text=True)
     assert run.returncode == 1 and run.stdout == "" and "refused with 10" in run.stderr
+
+
+def test_handshake():
+    said = subprocess.run([BUILT / "handshake"], capture_output=True, text=True, check=True).stdout
+    assert said.splitlines() == [
+        "full handshake, 11 bytes of reply",
+        "completed: 1, axle 3 holds 1",
+        "resumed handshake, 11 bytes of reply",
+        "completed: 1",
+    ]

@@ -1,12 +1,28 @@
 // The decisions (document 01, 'Server's decision', 'Client's decision').
 ghost use mathlib.Core.Path.{_≡_};
 ghost use Rattle.seqs.specs.Flag.{yes};
-ghost use Rattle.hello.specs.Fields.{readServer};
+ghost use Rattle.hello.specs.Fields.{readClient, readServer};
+ghost use Rattle.decision.specs.Server.{ServerDecides};
 ghost use Rattle.decision.specs.Client.{clientDecision};
 ghost use Rattle.decision.specs.Steps.{lentOf};
 use decision::Connection;
 use decision::Decision;
 use decision::Switches;
+use sessions::Table;
+
+#[no_mangle]
+pub extern "C" fn axle_decide_server(
+    message: &[u8],
+    axle: u8,
+    table: Table,
+    connection: Connection,
+    switches: Switches,
+    out: &mut [u8],
+) -> Decision
+    ensures { λ r. ⌜ ServerDecides table axle (readClient (now (message .entry))) connection switches (now (out .entry)) r (now (out .exit)) ⌝ }
+{
+    decision::decide_server(message, axle, table, connection, switches, out)
+}
 
 #[no_mangle]
 pub extern "C" fn axle_decide_client(

@@ -1,0 +1,95 @@
+//! Reading a hello.
+
+use crate::ffi;
+use crate::refusal::{done, Result};
+
+/// What a hello says by its extensions.
+#[derive(Clone, Copy, Debug, PartialEq, Eq)]
+pub struct Extensions<'a> {
+    /// The bytes inside the extension block; `None` where there is no block.
+    pub list: Option<&'a [u8]>,
+    /// What renegotiation_info holds, if it is there.
+    pub renegotiation_info: Option<&'a [u8]>,
+    /// extended_master_secret is there.
+    pub extended_master_secret: bool,
+    /// A type other than these two is there.
+    pub others: bool,
+}
+
+/// The fields of a ClientHello, as slices of the message that was read.
+#[derive(Clone, Copy, Debug, PartialEq, Eq)]
+pub struct ClientHello<'a> {
+    /// The version as a 16-bit number: 0x0303 or above.
+    pub version: u16,
+    /// 32 bytes.
+    pub random: &'a [u8],
+    /// The session identifier, 0 to 32 bytes.
+    pub identifier: &'a [u8],
+    /// Two bytes a suite.
+    pub suites: &'a [u8],
+    /// One byte a method.
+    pub methods: &'a [u8],
+    /// The signalling suite 00 ff is among the suites.
+    pub signal: bool,
+    /// The extensions.
+    pub extensions: Extensions<'a>,
+}
+
+/// The fields of a ServerHello, as slices of the message that was read.
+#[derive(Clone, Copy, Debug, PartialEq, Eq)]
+pub struct ServerHello<'a> {
+    /// 32 bytes.
+    pub random: &'a [u8],
+    /// The session identifier, 0 to 32 bytes.
+    pub identifier: &'a [u8],
+    /// The suite chosen.
+    pub suite: u16,
+    /// The compression method chosen.
+    pub compression: u8,
+    /// The extensions.
+    pub extensions: Extensions<'a>,
+}
+
+/// The part of the message; the reader's promise puts it inside.
+fn part(message: &[u8], part: ffi::Part) -> &[u8] {
+    &message[part.at..part.at + part.length]
+}
+
+fn extensions(message: &[u8], raw: ffi::Extensions) -> Extensions<'_> {
+    Extensions {
+        list: (raw.block != 0).then(|| part(message, raw.list)),
+        renegotiation_info: (raw.indicated != 0).then(|| part(message, raw.indication)),
+        extended_master_secret: raw.ems != 0,
+        others: raw.others != 0,
+    }
+}
+
+/// Reads one whole ClientHello message, header included: its fields, or the first fault.
+pub fn read_client_hello(message: &[u8]) -> Result<ClientHello<'_>> {
+    // SAFETY: the slice is good for its length and only read.
+    let answer = unsafe { ffi::axle_read_client_hello(message.as_ptr(), message.len()) };
+    let hello = done(answer.refusal, answer.hello)?;
+    Ok(ClientHello {
+        version: hello.version,
+        random: part(message, hello.random),
+        identifier: part(message, hello.identifier),
+        suites: part(message, hello.suites),
+        methods: part(message, hello.methods),
+        signal: hello.signal != 0,
+        extensions: extensions(message, hello.extensions),
+    })
+}
+
+/// Reads one whole ServerHello message, header included: its fields, or the first fault.
+pub fn read_server_hello(message: &[u8]) -> Result<ServerHello<'_>> {
+    // SAFETY: the slice is good for its length and only read.
+    let answer = unsafe { ffi::axle_read_server_hello(message.as_ptr(), message.len()) };
+    let hello = done(answer.refusal, answer.hello)?;
+    Ok(ServerHello {
+        random: part(message, hello.random),
+        identifier: part(message, hello.identifier),
+        suite: hello.suite,
+        compression: hello.compression,
+        extensions: extensions(message, hello.extensions),
+    })
+}

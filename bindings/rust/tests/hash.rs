@@ -1,0 +1,32 @@
+//! SHA-256 through the safe functions: published vectors and the bound.
+
+use axle_gateway::{sha256, Alert, Hash, Level, Refusal};
+
+fn hex(bytes: &[u8]) -> String {
+    bytes.iter().map(|b| format!("{b:02x}")).collect()
+}
+
+#[test]
+fn published_vectors() {
+    assert_eq!(hex(&sha256(b"abc").unwrap()), "ba7816bf8f01cfea414140de5dae2223b00361a396177a9cb410ff61f20015ad");
+    let mut hash = Hash::new();
+    for _ in 0..1000 {
+        hash.absorb(&[b'a'; 1000]).unwrap();
+    }
+    assert_eq!(hex(&hash.digest()), "cdc76e5c9914fb9281a1c7e284d73e67f1809a48a497200e046d39ccc7112cd0");
+}
+
+#[test]
+fn too_much_is_refused_and_changes_nothing() {
+    let mut hash = Hash::new();
+    hash.absorb(&vec![7; 1_048_576]).unwrap();
+    let before = hash.digest();
+    assert_eq!(hash.absorb(&[7]), Err(Refusal { number: 10, alert: None }));
+    assert_eq!(hash.digest(), before);
+}
+
+#[test]
+fn alerts() {
+    assert_eq!(Refusal::of(9).alert, Some(Alert { level: Level::Warning, code: 100 }));
+    assert_eq!(Refusal::of(200).alert, None);
+}

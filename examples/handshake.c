@@ -1,0 +1,124 @@
+/* One handshake between our two sides, and its resumption: hellos, decisions, transcript, secrets, Finished, completion,
+ * table. Key exchange, certificates and records are the caller's matter, so their messages are stand-ins here. */
+#include "axle_gateway.h"
+
+#include <stdio.h>
+#include <stdlib.h>
+#include <string.h>
+
+enum { AXLE = 3, CLIENT_HELLO = 1, SERVER_HELLO = 2, CERTIFICATE = 11, HELLO_DONE = 14, KEY_EXCHANGE = 16, FINISHED = 20 };
+
+static const uint8_t pre_master[48] = {3, 3, 42};
+static const AxleSwitches strict = {1, 0, 0};
+
+/* Every call answers a number; in this example each must be 0. */
+static void done(AxleRefusal refusal, const char *what)
+{
+    if (refusal.number != AXLE_DONE) {
+        printf("%s refused with %d, alert %d %d\n", what, refusal.number, refusal.level, refusal.code);
+        exit(1);
+    }
+}
+
+static size_t message(uint8_t *out, uint8_t type, const uint8_t *body, size_t length)
+{
+    out[0] = type;
+    out[1] = 0;
+    out[2] = (uint8_t)(length >> 8);
+    out[3] = (uint8_t)length;
+    memcpy(out + 4, body, length);
+    return 4 + length;
+}
+
+/* Our client's hello: RI and EMS, for a first handshake, and an identifier if it has a session. */
+static size_t client_hello(uint8_t *out, const uint8_t *identifier, uint8_t length)
+{
+    static const uint8_t rest[] = {0, 2, 0, 0x3b, 1, 0, 0, 9, 0xff, 1, 0, 1, 0, 0, 0x17, 0, 0};
+    uint8_t body[128] = {3, 3, 'c', 'l', 'i', 'e', 'n', 't'};
+    body[34] = length;
+    memcpy(body + 35, identifier, length);
+    memcpy(body + 35 + length, rest, sizeof rest);
+    return message(out, CLIENT_HELLO, body, 35 + length + sizeof rest);
+}
+
+static size_t server_hello(uint8_t *out, const uint8_t *identifier, uint8_t length, const uint8_t *reply, size_t reply_length)
+{
+    static const uint8_t chosen[] = {0, 0x3b, 0};
+    uint8_t body[128] = {3, 3, 's', 'e', 'r', 'v', 'e', 'r'};
+    body[34] = length;
+    memcpy(body + 35, identifier, length);
+    memcpy(body + 35 + length, chosen, sizeof chosen);
+    memcpy(body + 35 + length + sizeof chosen, reply, reply_length);
+    return message(out, SERVER_HELLO, body, 35 + length + sizeof chosen + reply_length);
+}
+
+static AxleLog accepted(AxleLog log, const uint8_t *bytes, size_t length, uint8_t resumes)
+{
+    AxleAccepted next = axle_log_accept(log, bytes, length, resumes);
+    done(next.refusal, "a message");
+    return next.log;
+}
+
+/* The Finished that is due: its value is asked for, checked as the peer would, and taken. */
+static AxleLog finished(AxleLog log, const uint8_t *secret)
+{
+    uint8_t bytes[16];
+    AxleExpected expected = axle_log_expected_finished(log, secret, 48);
+    done(expected.refusal, "a Finished value");
+    message(bytes, FINISHED, expected.value, 12);
+    AxleChecked checked = axle_log_check_finished(log, secret, 48, bytes, sizeof bytes);
+    done(checked.refusal, "the check of a Finished");
+    return accepted(checked.log, bytes, sizeof bytes, 0);
+}
+
+/* Both hellos: the server decides and replies, the client decides on the reply; both must see the same. */
+static AxleDecision hellos(AxleLog *log, AxleTable table, const uint8_t *offered, uint8_t length)
+{
+    static const AxleConnection fresh;
+    static const uint8_t renewed[4] = {'n', 'e', 'x', 't'};
+    uint8_t hello[192], answer[192], reply[64];
+    size_t n = client_hello(hello, offered, length);
+    AxleDecision server = axle_decide_server(hello, n, AXLE, table, fresh, strict, reply, sizeof reply);
+    done(server.refusal, "the server's decision");
+    *log = accepted(axle_log_fresh(), hello, n, 0);
+    n = server.resumes ? server_hello(answer, offered, length, reply, server.reply_length)
+                       : server_hello(answer, renewed, sizeof renewed, reply, server.reply_length);
+    AxleDecision client = axle_decide_client(answer, n, offered, length, length > 0, offered, length, 1, fresh, strict);
+    done(client.refusal, "the client's decision");
+    if (client.resumes != server.resumes || client.ems != server.ems || client.indication != server.indication)
+        exit(1);
+    *log = accepted(*log, answer, n, server.resumes);
+    printf("%s handshake, %zu bytes of reply\n", server.resumes ? "resumed" : "full", server.reply_length);
+    return server;
+}
+
+int main(void)
+{
+    static const uint8_t identifier[4] = {'n', 'e', 'x', 't'};
+    AxleTable table = axle_table_fresh();
+    AxleConnection connection = {0};
+    AxleLog log;
+    uint8_t bytes[64], secret[48];
+
+    AxleDecision decision = hellos(&log, table, NULL, 0);
+    static const uint8_t between[] = {CERTIFICATE, HELLO_DONE, KEY_EXCHANGE};
+    for (size_t i = 0; i < sizeof between; i++)
+        log = accepted(log, bytes, message(bytes, between[i], bytes, 0), 0);
+    AxleSessionHash session = axle_log_session_hash(log);
+    done(session.refusal, "the session hash");
+    done(axle_extended_master_secret(pre_master, sizeof pre_master, session.hash, 32, secret, sizeof secret), "the secret");
+    log = finished(finished(log, secret), secret);
+    done(axle_complete(&connection, log, decision), "completion");
+    AxleStored stored = axle_table_store(table, AXLE, identifier, sizeof identifier, decision.ems, secret, sizeof secret);
+    done(stored.refusal, "the store");
+    printf("completed: %d, axle %d holds %d\n", connection.completed, AXLE, axle_table_held(stored.table, AXLE).count);
+
+    memset(secret, 0, sizeof secret);
+    memset(&connection, 0, sizeof connection);
+    decision = hellos(&log, stored.table, identifier, sizeof identifier);
+    done(axle_table_look_up(stored.table, AXLE, identifier, sizeof identifier, secret, sizeof secret).refusal, "the look-up");
+    log = finished(finished(log, secret), secret);
+    done(axle_complete(&connection, log, decision), "completion");
+    printf("completed: %d\n", connection.completed);
+    return 0;
+}
