@@ -20,12 +20,6 @@ use Rattle.decision.specs.declared.connection.Decision.{Decision}
 use Rattle.gateway.specs.declared.completion.Completed.{Completed}
 use Rattle.gateway.specs.Completion.{completeNumber, completedRecord, completedOf, Completes}
 
-pub flag-no : (x : ℕ) → x ≡ 0 → 0 ≡ bit (yes x)
-flag-no x h = rw (eq-eqb x 0 h)
-
-pub flag-yes : (x : ℕ) → (x ≡ 0 → ⊥) → 1 ≡ bit (yes x)
-flag-yes x h = rw (ne-eqb x 0 h)
-
 -- 7, and the record as it was
 abbrev pub refusedWith : Connection → Completed
 refusedWith c = record { refusal = refusalOf 7; connection = c }

@@ -1,7 +1,7 @@
 -- A message by itself: which number it has, and what is known of one that is not refused.
 -- Assumes nothing.
 use mathlib.Core.Path.{_≡_, refl, sym, _∙_}
-use mathlib.Core.Bool.{Bool, true, false, not, _||_, true≢false}
+use mathlib.Core.Bool.{Bool, true, false, not, _||_}
 use mathlib.Core.List.{List, [], _∷_}
 use Prim.Native.Nat.{ℕ, _≤_}
 use native.Mathlib.Omega.{arith}
@@ -20,14 +20,7 @@ use Rattle.message.specs.declared.header.Framed.the-variants.{Whole, Refused}
 use Rattle.message.proofs.Frames.{whole-learnt, refused-learnt}
 use Rattle.log.specs.Steps.{Judges}
 use Rattle.refusal.specs.Listed.{numbered}
-
-or-left : (a b : Bool) → (a || b) ≡ false → a ≡ false
-or-left true b e = e
-or-left false b e = refl
-
-or-right : (a b : Bool) → (a || b) ≡ false → b ≡ false
-or-right true b e = absurd (true≢false e)
-or-right false b e = e
+use Rattle.seqs.specs.Cases.{or-left, or-right}
 
 -- the bytes of a message of type 20 that states 12
 finished-bytes : (m : List ℕ) → 4 ≤ length m → kindOf m ≡ 20 → tripleAt m 1 ≡ 12 → m ≡ finishedWith (bodyOf m)

@@ -8,6 +8,7 @@ use native.Mathlib.Omega.{arith}
 use lib.Dec.{eqb, ltb}
 use borrow.Author.Tests.{eqb-true, ltb-true, ltb-false}
 use Rattle.seqs.specs.Pick.{pick}
+use Rattle.seqs.specs.Cases.{and-left, and-right}
 use Rattle.log.specs.Order.{Place, number, placeAt, turns, look, complete}
 use Rattle.log.specs.Order.Place.{beginning, nowhere}
 use Rattle.log.specs.Orders.{orders, walk, Orderly}
@@ -38,14 +39,6 @@ unfolding placeAt
 last-place p h =
     let e : number p ≡ 17 = omega (arith, number-most p) in
     sym (placeAt-number p) ∙ ap placeAt e
-
-and-left : (a b : Bool) → (a && b) ≡ true → a ≡ true
-and-left true b e = refl
-and-left false b e = e
-
-and-right : (a b : Bool) → (a && b) ≡ true → b ≡ true
-and-right true b e = e
-and-right false b e = absurd (false≢true e)
 
 mem-map : {k d : ℕ} {l : List ℕ} {ls : List (List ℕ)} → k ≡ d → List·Memᴰ l ls → List·Memᴰ (k ∷ l) (map (λ (x : List ℕ). d ∷ x) ls)
 mem-map e (List·Memᴰ·head f) = List·Memᴰ·head (ap₂ {C = List ℕ} (λ a b. a ∷ b) e f)

@@ -3,7 +3,7 @@
 use mathlib.Core.Path.{_≡_, refl, sym, _∙_, ap}
 use mathlib.Core.Bool.{Bool, true, false}
 use mathlib.Core.List.{List, [], _∷_, _++_, append-assoc, append-nil}
-use mathlib.Core.Logic.{_⊎_, inl, inr, ⊎-elim}
+use mathlib.Core.Logic.{⊎-elim}
 use mathlib.Core.Option.{Option, none, some}
 use Prim.Native.Nat.{ℕ, zero, suc, _+_, _-_, _*_, _/_, _≤_, _<_}
 use native.Mathlib.Nat.{sub-zero, zero-sub, suc-sub-suc}
@@ -25,13 +25,10 @@ use Rattle.sessions.specs.declared.calls.Looked.{Looked}
 use Rattle.sessions.specs.declared.calls.Withdrawn.{Withdrawn}
 use Rattle.sessions.specs.declared.calls.Held.{Held}
 use Rattle.sessions.specs.declared.calls.Cleared.{Cleared}
-use Rattle.sessions.proofs.Numbers.{number-is}
+use Rattle.refusal.specs.Listed.{row-number}
+use Rattle.seqs.specs.Cases.{which}
 use Rattle.script.specs.Script.{identifierIn, lentIn, callOf, callAt, callsIn, reply, replyOf, repliesOf, replies}
 use Rattle.script.specs.Steps.{Steps}
-
-which : (t : Bool) → (t ≡ true) ⊎ (t ≡ false)
-which true = inl refl
-which false = inr refl
 
 -- ---- one call more
 
@@ -136,30 +133,30 @@ looked-reply : (a : ℕ) (i out : List ℕ) (b : Book)
 unfolding lookedOf outputOf answer replyOf
 looked-reply a i out b =
     let n = lookUpNumber a i out b in
-    rw (number-is n, there-granted n (sought a i b), ems-granted n (sought a i b))
+    rw (row-number n, there-granted n (sought a i b), ems-granted n (sought a i b))
 
 module _ (t : Table) where
   pub stored-steps : (a : ℕ) (i : List ℕ) (e : Bool) (s : List ℕ) (r : Stored) (bytes : List ℕ) → Stores t a i e s r → bytes ≡ reply (r .refusal .number) 0 0 0 []
       → Steps t (store a i e s) (record { table = r .table; reply = bytes })
   unfolding answer replyOf
   stored-steps a i e s r bytes p q =
-      record { replied = λ b k. q ∙ (rw (p .refusal, number-is (storeNumber a i s))); keeps = p .keeps }
+      record { replied = λ b k. q ∙ (rw (p .refusal, row-number (storeNumber a i s))); keeps = p .keeps }
 
   pub withdrew-steps : (a : ℕ) (i : List ℕ) (r : Withdrawn) (bytes : List ℕ) → Withdraws t a i r → bytes ≡ reply (r .refusal .number) (r .withdrawn) 0 0 []
       → Steps t (withdraw a i) (record { table = r .table; reply = bytes })
   unfolding answer replyOf withdrawnOf
   withdrew-steps a i r bytes p q =
-      record { replied = λ b k. q ∙ (rw (p .refusal, number-is (withdrawNumber a i), p .answers b k)); keeps = p .keeps }
+      record { replied = λ b k. q ∙ (rw (p .refusal, row-number (withdrawNumber a i), p .answers b k)); keeps = p .keeps }
 
   pub counted-steps : (a : ℕ) (r : Held) (bytes : List ℕ) → CountsHeld t a r → bytes ≡ reply (r .refusal .number) 0 0 (r .count) []
       → Steps t (held a) (record { table = t; reply = bytes })
   unfolding answer replyOf heldOf after
-  counted-steps a r bytes p q = record { replied = λ b k. q ∙ (rw (p .answers b k, number-is (heldNumber a))); keeps = λ b k. k }
+  counted-steps a r bytes p q = record { replied = λ b k. q ∙ (rw (p .answers b k, row-number (heldNumber a))); keeps = λ b k. k }
 
   pub cleared-steps : (r : Cleared) (bytes : List ℕ) → Clears t r → bytes ≡ reply (r .refusal .number) 0 0 0 []
       → Steps t clear (record { table = r .table; reply = bytes })
   unfolding answer replyOf after
-  cleared-steps r bytes p q = record { replied = λ b k. q ∙ (rw (p .refusal, number-is 0)); keeps = λ b k. p .keeps }
+  cleared-steps r bytes p q = record { replied = λ b k. q ∙ (rw (p .refusal, row-number 0)); keeps = λ b k. p .keeps }
 
   pub looked-steps : (a : ℕ) (i out : List ℕ) (r : Looked) (out′ bytes : List ℕ) → LooksUp t a i out r out′ → bytes ≡ reply (r .refusal .number) (r .found) (r .ems) 0 out′
       → Steps t (lookUp a i out) (record { table = t; reply = bytes })

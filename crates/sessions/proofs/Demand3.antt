@@ -12,9 +12,11 @@ use lib.Dec.{eqb, ltb}
 use lib.ListN.{length, take, drop}
 use lib.Seq.{take-at}
 use borrow.Author.Tests.{eq-eqb, eqb-true, le-leb, ltb-false}
-use Rattle.seqs.specs.Flag.{yes, bit}
+use Rattle.seqs.specs.Flag.{yes, bit, yes-bit}
 use Rattle.seqs.specs.Pick.{pick}
 use Rattle.refusal.specs.First.{firstOf}
+use Rattle.refusal.specs.Listed.{row-number}
+use Rattle.seqs.specs.Cases.{which}
 use Rattle.sessions.specs.Book.{Session, Book, session, empty, there, isNamed, sought, badName, tooShort, storeNumber, lookUpNumber, withdrawNumber, heldNumber, granted, handed, holds, isName, lookUp, Answer, looked, withdrew, counted, answer, after, answersFrom, bookFrom, numberOf}
 use Rattle.sessions.specs.History.{Event, History, callsOf, answersOf, latest, since, latestFrom, sinceFrom, noted, further}
 use Rattle.sessions.specs.Keeps.{Formed, Each, Keeps}
@@ -22,8 +24,7 @@ use Rattle.sessions.specs.Promises.{LooksUp, withEms, lookedOf, outputOf
 use Rattle.sessions.specs.Demand3.{foundBy, Step, storing, looking, withdrawing, counting, clearing, Run, done, next, Theorem}
 use Rattle.sessions.specs.declared.table.Table.{Table}
 use Rattle.sessions.specs.declared.calls.Looked.{Looked}
-use Rattle.sessions.proofs.Numbers.{number-is, yes-bit}
-use Rattle.sessions.proofs.Rows.{which, oldest-meets, oldest-each}
+use Rattle.sessions.proofs.Rows.{oldest-meets, oldest-each}
 use Rattle.sessions.proofs.Names.{named-name, name-axle, name-identifier}
 use Rattle.sessions.proofs.Track.{Track, track-none, track-call}
 
@@ -71,7 +72,7 @@ found-after : (t : Table) (b : Book) (a : ℕ) (i out : List ℕ) (r : Looked) (
 unfolding lookedOf
 found-after t b a i out r out′ k p z =
     let q = p .answers b k in
-    let n : lookUpNumber a i out b ≡ 0 = sym (number-is (lookUpNumber a i out b)) ∙ ap (λ (x : Looked). x .refusal .number) (sym (q .returned)) ∙ z in
+    let n : lookUpNumber a i out b ≡ 0 = sym (row-number (lookUpNumber a i out b)) ∙ ap (λ (x : Looked). x .refusal .number) (sym (q .returned)) ∙ z in
     rw (q .returned, q .output) (found-is a i out b (k .sound .formed) ∙ (rw (eq-eqb (lookUpNumber a i out b) 0 n)))
 
 -- ---- a step
@@ -80,7 +81,7 @@ outputs : (a : ℕ) (i out : List ℕ) (b : Book)
     → looked (lookedOf a i out b .refusal .number) (granted (lookUpNumber a i out b) (sought a i b) none) (outputOf a i out b)
     ≡ looked (lookUpNumber a i out b) (granted (lookUpNumber a i out b) (sought a i b) none) (granted (lookUpNumber a i out b) (handed out (sought a i b)) out)
 unfolding lookedOf outputOf
-outputs a i out b = rw (number-is (lookUpNumber a i out b))
+outputs a i out b = rw (row-number (lookUpNumber a i out b))
 
 looked-is : (a : ℕ) (i out : List ℕ) (b : Book) → Each Formed b
     → looked (lookedOf a i out b .refusal .number) (foundBy a i (lookedOf a i out b) (outputOf a i out b)) (outputOf a i out b) ≡ answer b (lookUp a i out)
@@ -94,17 +95,17 @@ withdrawn-is a i b = rw (yes-bit (granted (withdrawNumber a i) (there (sought a 
 
 held-is : (a : ℕ) (b : Book) → counted (heldOf a b .refusal .number) (heldOf a b .count) ≡ counted (heldNumber a) (granted (heldNumber a) (holds a b) 0)
 unfolding heldOf
-held-is a b = rw (number-is (heldNumber a))
+held-is a b = rw (row-number (heldNumber a))
 
 step-answer : (b : Book) (t t′ : Table) (e : Event) → Step t e t′ → Keeps t b → e .answer ≡ answer b (e .call)
 unfolding answer
-step-answer b t t′ e (storing {a = a} {i = i} {s = s} p) k = rw (p .refusal, number-is (storeNumber a i s))
+step-answer b t t′ e (storing {a = a} {i = i} {s = s} p) k = rw (p .refusal, row-number (storeNumber a i s))
 step-answer b t t′ e (looking {a = a} {i = i} {out = out} p) k =
     let q = p .answers b k in
     rw (q .returned, q .output) (looked-is a i out b (k .sound .formed))
-step-answer b t t′ e (withdrawing {a = a} {i = i} p) k = rw (p .refusal, number-is (withdrawNumber a i), p .answers b k) (withdrawn-is a i b)
+step-answer b t t′ e (withdrawing {a = a} {i = i} p) k = rw (p .refusal, row-number (withdrawNumber a i), p .answers b k) (withdrawn-is a i b)
 step-answer b t t′ e (counting {a = a} p) k = rw (p .answers b k) (held-is a b)
-step-answer b t t′ e (clearing p) k = rw (p .refusal, number-is 0)
+step-answer b t t′ e (clearing p) k = rw (p .refusal, row-number 0)
 
 step-keeps : (b : Book) (t t′ : Table) (e : Event) → Step t e t′ → Keeps t b → Keeps t′ (after b (e .call))
 unfolding after

@@ -15,6 +15,8 @@ use Rattle.seqs.specs.Flag.{yes, bit}
 use Rattle.refusal.specs.Table.{refusalOf}
 use Rattle.refusal.specs.declared.Refusal.{Refusal}
 use Rattle.octets.specs.Put.{putNumber, putList}
+use Rattle.refusal.specs.Listed.{row-number}
+use Rattle.seqs.specs.Cases.{which}
 use Rattle.sessions.specs.Book.{Book, session, empty, isNamed, holds, sought, struck, written, badAxle, badName, storeNumber, lookUpNumber, store, withdraw, after}
 use Rattle.sessions.specs.Keeps.{Formed, sessionOf, bookOf, Keeps}
 use Rattle.sessions.specs.Places.{place}
@@ -25,8 +27,7 @@ use Rattle.sessions.specs.declared.calls.Looked.{Looked}
 use Rattle.sessions.specs.declared.calls.Held.{Held}
 use Rattle.sessions.specs.declared.calls.Known.{Known}
 use Rattle.sessions.specs.declared.calls.Known.the-variants.{Nothing, WithoutEms, WithEms}
-use Rattle.sessions.proofs.Rows.{which}
-use Rattle.sessions.proofs.Numbers.{number-is, withdraw-11, withdraw-0, look-11, look-none, look-10, look-0, held-11, held-0}
+use Rattle.sessions.proofs.Numbers.{withdraw-11, withdraw-0, look-11, look-none, look-10, look-0, held-11, held-0}
 use Rattle.sessions.proofs.Places.{noRow, book-at, place-strike, place-oldest, place-none}
 use Rattle.sessions.proofs.Sound.{good-store, sound-empty, sound-after, struck-fits}
 
@@ -73,7 +74,7 @@ module _ (t : Table) (a : ℕ) (i : List ℕ) (e : Bool) (s : List ℕ) (n : ℕ
     stores-done z =
         record {
           refusal = ref ∙ ap refusalOf num;
-          refused = λ w. absurd (w (rw (ref, number-is n) z));
+          refused = λ w. absurd (w (rw (ref, row-number n) z));
           keeps = λ b k. record { row = stores-row z b k; sound = sound-after b (store a i e s) (k .sound) };
         }
 
@@ -87,7 +88,7 @@ looks-up t a i out r out′ p =
       of-row = p;
       refused = λ w.
           let n = lookUpNumber a i out (bookOf t) in
-          let z : n ≡ 0 → ⊥ = λ e. w (rw (p .returned, number-is n) e) in
+          let z : n ≡ 0 → ⊥ = λ e. w (rw (p .returned, row-number n) e) in
           p .output ∙ (rw (ne-eqb n 0 z));
       answers = λ b k. rw (k .row) at p;
     }
@@ -194,7 +195,7 @@ module _ (t : Table) (a : ℕ) (i : List ℕ) (f : Refusal) where
           refusal = ref ∙ ap refusalOf n;
           row = bookOf t;
           of-row = rw (← n, z);
-          refused = λ w. absurd (w (rw (ref, number-is 0)));
+          refused = λ w. absurd (w (rw (ref, row-number 0)));
           answers = λ b k. rw (← n, ← k .row, z);
           keeps = λ b k. record { row = gone ∙ (rw (is, ← n, ← k .row) (place-strike (isNamed a i) (bookOf t))); sound = sound-after b (withdraw a i) (k .sound) };
         }

@@ -1,39 +1,16 @@
 -- Sessions by axle and by name: which tests go together, and which keep apart.
 -- Assumes nothing.
-use mathlib.Core.Path.{_≡_, refl, sym, _∙_, ap₂}
-use mathlib.Core.Bool.{Bool, true, false, _&&_, false≢true}
-use mathlib.Core.List.{List, [], _∷_}
+use mathlib.Core.Path.{_≡_, refl, sym, _∙_}
+use mathlib.Core.Bool.{true, false}
+use mathlib.Core.List.{List}
 use mathlib.Core.Logic.{⊎-elim}
 use Prim.Native.Nat.{ℕ}
 use lib.Dec.{eqb}
 use borrow.Author.Tests.{eqb-true, eq-eqb, ne-eqb}
 use Rattle.octets.specs.Same.{same}
+use Rattle.seqs.specs.Cases.{and-left, and-right, not-both, which}
+use Rattle.octets.specs.Equal.{same-refl, same-true}
 use Rattle.sessions.specs.Book.{Session, isOf, isName, isNamed}
-use Rattle.sessions.proofs.Rows.{which, not-both}
-
-pub and-left : (s t : Bool) → (s && t) ≡ true → s ≡ true
-and-left true t e = refl
-and-left false t e = e
-
-pub and-right : (s t : Bool) → (s && t) ≡ true → t ≡ true
-and-right true t e = e
-and-right false t e = absurd (false≢true e)
-
-pub same-true : (xs ys : List ℕ) → same xs ys ≡ true → xs ≡ ys
-unfolding same
-same-true [] [] e = refl
-same-true [] (y ∷ ys) e = absurd (false≢true e)
-same-true (x ∷ xs) [] e = absurd (false≢true e)
-same-true (x ∷ xs) (y ∷ ys) e =
-    ⊎-elim
-    (λ (h : eqb x y ≡ true). let r : same xs ys ≡ true = rw h at e in ap₂ {C = List ℕ} (λ a b. a ∷ b) (eqb-true x y h) (same-true xs ys r))
-    (λ (h : eqb x y ≡ false). absurd (false≢true (rw h at e)))
-    (which (eqb x y))
-
-pub same-refl : (xs : List ℕ) → same xs xs ≡ true
-unfolding same
-same-refl [] = refl
-same-refl (x ∷ xs) = rw (eq-eqb x x refl) (same-refl xs)
 
 pub name-axle : (a : ℕ) (i : List ℕ) (a′ : ℕ) (i′ : List ℕ) → isName a i a′ i′ ≡ true → a′ ≡ a
 unfolding isName

@@ -1,42 +1,14 @@
 -- The numbers that the calls answer, by their tests; the number in a refusal; a flag read again.
 -- Assumes nothing.
-use mathlib.Core.Path.{_≡_, refl}
-use mathlib.Core.Bool.{Bool, true, false}
+use mathlib.Core.Path.{_≡_}
+use mathlib.Core.Bool.{true, false}
 use mathlib.Core.List.{List}
 use mathlib.Core.Option.{none, some}
-use Prim.Native.Nat.{ℕ, zero, suc, _≤_, _<_}
+use Prim.Native.Nat.{ℕ, _≤_, _<_}
 use lib.ListN.{length}
 use borrow.Author.Tests.{le-leb, lt-leb, eq-eqb, ne-eqb, le-ltb, lt-ltb}
-use Rattle.seqs.specs.Flag.{yes, bit}
 use Rattle.refusal.specs.First.{firstOf}
-use Rattle.refusal.specs.Table.{refusalOf}
 use Rattle.sessions.specs.Book.{Session, Book, sought, badAxle, badName, badSecret, tooShort, storeNumber, lookUpNumber, withdrawNumber, heldNumber}
-
-pub number-is : (n : ℕ) → refusalOf n .number ≡ n
-unfolding refusalOf
-number-is zero = refl
-number-is (suc zero) = refl
-number-is (suc (suc zero)) = refl
-number-is (suc (suc (suc zero))) = refl
-number-is (suc (suc (suc (suc zero)))) = refl
-number-is (suc (suc (suc (suc (suc zero))))) = refl
-number-is (suc (suc (suc (suc (suc (suc zero)))))) = refl
-number-is (suc (suc (suc (suc (suc (suc (suc zero))))))) = refl
-number-is (suc (suc (suc (suc (suc (suc (suc (suc zero)))))))) = refl
-number-is (suc (suc (suc (suc (suc (suc (suc (suc (suc zero))))))))) = refl
-number-is (suc (suc (suc (suc (suc (suc (suc (suc (suc (suc zero)))))))))) = refl
-number-is (suc (suc (suc (suc (suc (suc (suc (suc (suc (suc (suc zero))))))))))) = refl
-number-is (suc (suc (suc (suc (suc (suc (suc (suc (suc (suc (suc (suc n)))))))))))) = refl
-
-pub yes-bit : (t : Bool) → yes (bit t) ≡ t
-yes-bit true = refl
-yes-bit false = refl
-
-pub bit-no : (x : ℕ) → x ≡ 0 → 0 ≡ bit (yes x)
-bit-no x e = rw e
-
-pub bit-yes : (x : ℕ) → (x ≡ 0 → ⊥) → 1 ≡ bit (yes x)
-bit-yes x n = rw (ne-eqb x 0 n)
 
 -- ---- the tests
 

@@ -14,12 +14,12 @@ use lib.Seq.{drop-cons, getD-take, take-set-le, take-suc-set}
 use lib.Dec.{ltb}
 use borrow.Author.Tests.{ltb-true, ltb-false}
 use Rattle.seqs.specs.Cut.{cut, cut-past, take-measure, Shifted, shifted-none}
+use Rattle.seqs.specs.Cases.{which}
 use Rattle.sessions.specs.Book.{Session, Book, many, oldest, strike, isOf}
 use Rattle.sessions.specs.Keeps.{sessionOf, bookOf}
 use Rattle.sessions.specs.Places.{place}
 use Rattle.sessions.specs.declared.row.Row.{Row}
 use Rattle.sessions.specs.declared.table.Table.{Table}
-use Rattle.sessions.proofs.Rows.{which}
 use Rattle.sessions.proofs.Names.{of-axle, of-other}
 
 -- what stands past the end of an array of rows, and its session

@@ -11,15 +11,9 @@ use native.Mathlib.Nat.{zero-add, add-assoc}
 use native.Mathlib.Omega.{arith}
 use lib.ListN.{length}
 use Rattle.seqs.specs.Pick.{pick}
+use Rattle.seqs.specs.Cases.{which}
 use Rattle.sessions.specs.Book.{Session, Book, many, oldest, strike, there}
 use Rattle.sessions.specs.Keeps.{Each}
-
-pub which : (t : Bool) → (t ≡ true) ⊎ (t ≡ false)
-which true = inl refl
-which false = inr refl
-
-pub not-both : {X : Type 0} {t : Bool} → t ≡ true → t ≡ false → X
-not-both e f = absurd (true≢false (sym e ∙ f))
 
 pub zero-or : (n : ℕ) → (n ≡ 0) ⊎ (1 ≤ n)
 zero-or zero = inl refl

@@ -2,7 +2,7 @@
 -- at most 32 in all.
 -- Assumes nothing.
 use mathlib.Core.Path.{_≡_, refl}
-use mathlib.Core.Bool.{Bool, true, false, not, _&&_, _||_, false≢true, true≢false}
+use mathlib.Core.Bool.{Bool, true, false, not, _&&_, false≢true, true≢false}
 use mathlib.Core.List.{List, [], _∷_, _++_}
 use mathlib.Core.Logic.{⊎-elim}
 use Prim.Native.Nat.{ℕ, _≤_}
@@ -11,10 +11,11 @@ use lib.Dec.{eqb, leb}
 use lib.ListN.{length, length-append}
 use borrow.Author.Tests.{eqb-true, leb-true}
 use Rattle.refusal.specs.First.{firstOf}
+use Rattle.seqs.specs.Cases.{and-left, and-right, or-left, or-right, which}
 use Rattle.sessions.specs.Book.{Session, Book, session, many, strike, isOf, isName, isNamed, holds, fullest, struck, written, badAxle, badName, badSecret, storeNumber, withdrawNumber, Call, store, lookUp, withdraw, held, clear, after, empty}
 use Rattle.sessions.specs.Keeps.{Formed, Each, Sound}
-use Rattle.sessions.proofs.Rows.{which, many-append, strike-length, strike-shorter, many-strike, within-many}
-use Rattle.sessions.proofs.Names.{and-left, and-right, name-axle, name-identifier, axle-of, named-of}
+use Rattle.sessions.proofs.Rows.{many-append, strike-length, strike-shorter, many-strike, within-many}
+use Rattle.sessions.proofs.Names.{name-axle, name-identifier, axle-of, named-of}
 use Rattle.sessions.proofs.Struck.{Struck, renewed, own, room, other, struck-is, fullest-six}
 
 -- ---- the sessions of a row, each
@@ -29,14 +30,6 @@ each-last P [] s f h = (h, tt)
 each-last P (x ∷ b) s f h = (f .0, each-last P b s (f .1) h)
 
 -- ---- what a number of 0 says
-
-pub or-left : (s t : Bool) → (s || t) ≡ false → s ≡ false
-or-left true t e = e
-or-left false t e = refl
-
-pub or-right : (s t : Bool) → (s || t) ≡ false → t ≡ false
-or-right true t e = absurd (true≢false e)
-or-right false t e = e
 
 not-off : (t : Bool) → not t ≡ false → t ≡ true
 not-off true e = refl

@@ -11,9 +11,10 @@ use lib.Dec.{eqb, leb, ltb}
 use lib.ListN.{length}
 use borrow.Author.Tests.{eqb-true, eqb-false, ltb-true, ltb-false, leb-true, leb-false}
 use Rattle.seqs.specs.Pick.{pick}
+use Rattle.seqs.specs.Cases.{which}
 use Rattle.sessions.specs.Book.{Book, many, strike, there, isOf, isNamed, holds, sought, fuller, fullest, struck}
 use Rattle.sessions.specs.Keeps.{Formed, Each}
-use Rattle.sessions.proofs.Rows.{which, there-some, there-none}
+use Rattle.sessions.proofs.Rows.{there-some, there-none}
 
 one-of-six : (a : ℕ) → 1 ≤ a → a ≤ 6
     → pick (eqb a 1) 1 0 + pick (eqb a 2) 1 0 + pick (eqb a 3) 1 0 + pick (eqb a 4) 1 0 + pick (eqb a 5) 1 0 + pick (eqb a 6) 1 0 ≡ 1

@@ -13,10 +13,11 @@ use native.Mathlib.Omega.{arith}
 use lib.Dec.{eqb}
 use borrow.Author.Tests.{eqb-true, eqb-false}
 use Rattle.seqs.specs.Pick.{pick}
+use Rattle.seqs.specs.Cases.{which}
 use Rattle.sessions.specs.Book.{Session, Book, session, many, oldest, strike, isOf, isName, isNamed, holds, sought, fullest, struck, written, storeNumber, withdrawNumber, Call, store, lookUp, withdraw, held, clear, answer, numberOf, after, empty}
 use Rattle.sessions.specs.History.{noted, further}
 use Rattle.sessions.specs.Keeps.{Sound}
-use Rattle.sessions.proofs.Rows.{which, zero-or, last-oldest, last-many, none-there, append-none, behind, behind-some, behind-none, many-strike, strike-many, within-strike, apart-oldest, apart-many, apart-behind}
+use Rattle.sessions.proofs.Rows.{zero-or, last-oldest, last-many, none-there, append-none, behind, behind-some, behind-none, many-strike, strike-many, within-strike, apart-oldest, apart-many, apart-behind}
 use Rattle.sessions.proofs.Names.{name-axle, name-identifier, of-axle, of-other, named-of, named-other, named-apart}
 use Rattle.sessions.proofs.Sound.{struck-gone}
 use Rattle.sessions.proofs.Struck.{Struck, renewed, own, room, other, struck-is, fullest-six}
