@@ -1,0 +1,3 @@
+pub mod Contents
+pub mod Digits
+pub mod Texts
