@@ -21,6 +21,13 @@ left case i = total (lengthsFrom case i)
 pub bodiesFrom : List ℕ → ℕ → ℕ → List (List ℕ)
 bodiesFrom case i at = partsOf (lengthsFrom case i) (drop at case)
 
+-- the length of the body at place i, and the body itself
+abbrev pub sizeAt : List ℕ → ℕ → ℕ
+sizeAt case i = pairAt case (1 + 2 * i)
+
+abbrev pub bodyAt : List ℕ → ℕ → ℕ → List ℕ
+bodyAt case i at = take (sizeAt case i) (drop at case)
+
 pair-drop : (s : List ℕ) (k : ℕ) → pairAt (drop k s) 0 ≡ pairAt s k
 unfolding pairAt byteAt
 pair-drop s k =
@@ -29,7 +36,7 @@ pair-drop s k =
     omega (arith, a, b)
 
 module _ (case : List ℕ) (i : ℕ) where
-  lengths-more : i < countOf case → lengthsFrom case i ≡ pairAt case (1 + 2 * i) ∷ lengthsFrom case (i + 1)
+  lengths-more : i < countOf case → lengthsFrom case i ≡ sizeAt case i ∷ lengthsFrom case (i + 1)
   unfolding lengthsFrom lengthsIn
   lengths-more h =
       let e : countOf case - i ≡ suc (countOf case - (i + 1)) = omega arith in
@@ -41,7 +48,7 @@ module _ (case : List ℕ) (i : ℕ) where
   unfolding lengthsFrom lengthsIn
   lengths-end h = let e : countOf case - i ≡ 0 = omega arith in rw e
 
-  pub left-more : i < countOf case → left case i ≡ pairAt case (1 + 2 * i) + left case (i + 1)
+  pub left-more : i < countOf case → left case i ≡ sizeAt case i + left case (i + 1)
   unfolding left total
   left-more h = rw (lengths-more h)
 
@@ -50,7 +57,7 @@ module _ (case : List ℕ) (i : ℕ) where
   left-end h = rw (lengths-end h)
 
   pub bodies-more : (at : ℕ) → i < countOf case
-      → bodiesFrom case i at ≡ take (pairAt case (1 + 2 * i)) (drop at case) ∷ bodiesFrom case (i + 1) (at + pairAt case (1 + 2 * i))
+      → bodiesFrom case i at ≡ bodyAt case i at ∷ bodiesFrom case (i + 1) (at + sizeAt case i)
   unfolding bodiesFrom partsOf
   bodies-more at h = rw (lengths-more h, drop-drop)
 

@@ -1,9 +1,10 @@
 // The whole text.
+use crate::line::Line;
 ghost use mathlib.Core.Path.{_≡_};
 ghost use mathlib.Core.List.{List, [], _++_};
 ghost use Prim.Native.Nat.{ℕ, _+_, _≤_};
 ghost use lib.ListN.{length};
-ghost use Rattle.listing.specs.Texts.{textOf};
+ghost use Rattle.listing.specs.Texts.{lineOf, textOf};
 
 // 23 bytes of header, and 255 lines of at most 16.
 pub struct Text {
@@ -36,5 +37,15 @@ impl Text {
         }
         text.length = start + i;
         text
+    }
+
+    // With a line more.
+    pub(crate) fn with_line(self, line: Line) -> Text
+        requires { ⌜ (self .length + 16 ≤ 4103) × (line .length ≤ 16) ⌝ }
+        ensures { λ r. ⌜ (r .length ≤ self .length + 16) × ((s : List ℕ) → self ≡ textOf s → r ≡ textOf (s ++ lineOf line)) ⌝ }
+    {
+        let bytes = line.bytes;
+        let length = line.length;
+        self.with(&bytes[..length])
     }
 }

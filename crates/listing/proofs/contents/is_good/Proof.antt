@@ -20,7 +20,7 @@ abbrev μ-loop : tie.MeasureT-loop
 μ-loop case count size end₀ i₀ end i = count - i
 
 returns : tie.Need-returns Inv-loop μ-loop
-returns c = sym (bad-long _ (c .if1 .taken))
+returns c = sym (bad-long _ (omega arith))
 
 byte-requires : tie.Need-byte-requires Inv-loop μ-loop
 byte-requires c κs = search needs
