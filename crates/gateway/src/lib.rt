@@ -1,0 +1,3 @@
+// The outer face: every public call as a C function over plain structs and lent bytes (include/axle_gateway.h).
+mod hash;
+mod refusals;

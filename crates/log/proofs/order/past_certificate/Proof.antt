@@ -1,0 +1,18 @@
+-- The rest of a row, from what the calls ensure.
+-- Assumes nothing.
+use mathlib.Core.Path.{_∙_}
+use borrow.Author.Needs.{needs}
+use Rattle.log.proofs.order.past_certificate.Statement.{statement}
+use Rattle.log.proofs.order.past_certificate.Tie as tie
+
+past-key-exchange-requires : tie.Need-past-key-exchange-requires
+past-key-exchange-requires c κs = search needs
+
+turn-requires : tie.Need-turn-requires
+turn-requires c κs = search needs
+
+returns : tie.Need-returns
+returns c = c .turn .ensures ∙ (rw (c .before .past-key-exchange .ensures))
+
+pub past-certificate-spec : {M : Type 1} → statement M
+past-certificate-spec = tie.close (tie.spec past-key-exchange-requires turn-requires returns)

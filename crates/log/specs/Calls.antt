@@ -1,0 +1,76 @@
+-- What each call answers, and the history after it (document 01, 'The message log'; the order of the numbers is that of 'Numbers
+-- answered').
+-- Assumes nothing.
+use mathlib.Core.Bool.{Bool, false, not, _&&_, _||_}
+use mathlib.Core.List.{List, [], _∷_}
+use mathlib.Core.Option.{Option, none, some}
+use Prim.Native.Nat.{ℕ}
+use lib.Dec.{eqb}
+use lib.ListN.{length, replicate}
+use Rattle.seqs.specs.Pick.{pick}
+use Rattle.seqs.specs.Flag.{bit}
+use Rattle.refusal.specs.First.{firstOf}
+use Rattle.refusal.specs.Table.{refusalOf}
+use Rattle.octets.specs.Same.{same}
+use Rattle.message.specs.Frame.{kindOf, bodyOf, overlong, misstated}
+use Rattle.log.specs.Order.{turns, look, somewhere, exchanged, complete, resumed}
+use Rattle.log.specs.Order.Side.{client, server}
+use Rattle.log.specs.History.{History, placeOf, sessionHash, remembered, verifyDataOf}
+use Rattle.log.specs.History.History.{accepted}
+use Rattle.log.specs.declared.answers.SessionHash.{SessionHash}
+use Rattle.log.specs.declared.answers.Finished.{Finished}
+
+-- 'Type 0 must have no body'; 'A Finished body is 12 bytes, else 1.'
+unfoldable pub wrongBody : ℕ → ℕ → Bool
+wrongBody kind n = (eqb kind 0 && not (eqb n 0)) || (eqb kind 20 && not (eqb n 12))
+
+unfoldable pub misshapen : List ℕ → Bool
+misshapen m = wrongBody (kindOf m) (length (bodyOf m))
+
+-- the message by itself, the same for every log
+unfoldable pub shapeNumber : List ℕ → ℕ
+shapeNumber m = firstOf ((10, overlong m) ∷ (1, misstated m) ∷ (1, misshapen m) ∷ [])
+
+-- type 0 'is accepted anywhere'; 'Anything else is 7.'
+unfoldable pub outOfTurn : History → List ℕ → Bool → Bool
+outOfTurn h m resumes = not (eqb (kindOf m) 0) && not (somewhere (look (kindOf m) (turns resumes (placeOf h))))
+
+unfoldable pub isMessage : List ℕ → Option (List ℕ) → Bool
+isMessage m none = false
+isMessage m (some f) = same m f
+
+-- 'Taking any other bytes is 7.'
+unfoldable pub unchecked : History → List ℕ → Bool
+unchecked h m = eqb (kindOf m) 20 && not (isMessage m (remembered h))
+
+-- accepting a message
+unfoldable pub acceptNumber : History → List ℕ → Bool → ℕ
+acceptNumber h m resumes =
+    firstOf
+    ((10, overlong m)
+    ∷ (1, misstated m)
+    ∷ (1, misshapen m)
+    ∷ (7, outOfTurn h m resumes)
+    ∷ (7, unchecked h m)
+    ∷ [])
+
+unfoldable pub afterAccept : History → List ℕ → Bool → History
+afterAccept h m resumes = pick (eqb (acceptNumber h m resumes) 0) (accepted h m resumes) h
+
+-- the session hash; 'asked earlier, or in a resumed log, it is 7'
+unfoldable pub sessionNumber : History → ℕ
+sessionNumber h = firstOf ((7, not (exchanged (placeOf h))) ∷ [])
+
+unfoldable pub sessionHashOf : History → SessionHash
+sessionHashOf h =
+    record {
+      refusal = refusalOf (sessionNumber h);
+      hash = pick (eqb (sessionNumber h) 0) (sessionHash h) (replicate 32 0);
+    }
+
+-- what completion asks of a log: are both Finished taken, does it resume, and 'both values', the client's and the server's; nothing before
+unfoldable pub finishedOf : History → Finished
+finishedOf h =
+    pick (complete (placeOf h))
+    (record { complete = 1; resumed = bit (resumed (placeOf h)); client = verifyDataOf client h; server = verifyDataOf server h })
+    (record { complete = 0; resumed = 0; client = replicate 12 0; server = replicate 12 0 })

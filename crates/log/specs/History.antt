@@ -1,0 +1,60 @@
+-- What a log stands for: its history, and what document 01, 'The message log', makes of it.
+-- Assumes nothing.
+use mathlib.Core.Bool.{Bool, true, false, _&&_}
+use mathlib.Core.List.{List, [], _++_}
+use mathlib.Core.Option.{Option, none, some}
+use Prim.Native.Nat.{ℕ}
+use lib.Dec.{eqb}
+use lib.ListN.{replicate}
+use Rattle.seqs.specs.Pick.{pick}
+use Rattle.message.specs.Frame.{kindOf, bodyOf}
+use Rattle.sha256.specs.Sha256.{sha256}
+use Rattle.log.specs.Order.{Place, Side, turns, look, sideAt}
+use Rattle.log.specs.Order.Place.{beginning}
+use Rattle.log.specs.Order.Side.{client, server}
+
+-- The calls that were not refused, the latest outermost.
+pub data History : Type 0 where
+  fresh : History
+  -- a message was accepted, and with it was told whether it resumes: of account with a ServerHello alone
+  accepted : History → List ℕ → Bool → History
+  -- a Finished message was checked, and its value is the expected one
+  checked : History → List ℕ → History
+
+-- where the handshake stands; type 0 'is accepted anywhere'
+unfoldable pub placeOf : History → Place
+placeOf fresh = beginning
+placeOf (accepted h m resumes) = pick (eqb (kindOf m) 0) (placeOf h) (look (kindOf m) (turns resumes (placeOf h)))
+placeOf (checked h m) = placeOf h
+
+-- the hashed bytes: 'all accepted messages, headers included'; type 0 'isn't hashed'
+unfoldable pub hashed : History → List ℕ
+hashed fresh = []
+hashed (accepted h m resumes) = pick (eqb (kindOf m) 0) (hashed h) (hashed h ++ m)
+hashed (checked h m) = hashed h
+
+-- 'The session hash is SHA-256 over all accepted messages, headers included, from ClientHello through ClientKeyExchange': what was hashed
+-- when the ClientKeyExchange, type 16, was accepted. 'It stays the same afterwards.' Zeros before it.
+unfoldable pub sessionHash : History → List ℕ
+sessionHash fresh = replicate 32 0
+sessionHash (accepted h m resumes) = pick (eqb (kindOf m) 16) (sha256 (hashed h ++ m)) (sessionHash h)
+sessionHash (checked h m) = sessionHash h
+
+-- 'The log remembers the last Finished message checked equal since its last accepted message'
+unfoldable pub remembered : History → Option (List ℕ)
+remembered fresh = none
+remembered (accepted h m resumes) = none
+remembered (checked h m) = some m
+
+unfoldable pub sameSide : Side → Side → Bool
+sameSide client client = true
+sameSide client server = false
+sameSide server client = false
+sameSide server server = true
+
+-- verify_data of a side's Finished, once that is taken; zeros before
+unfoldable pub verifyDataOf : Side → History → List ℕ
+verifyDataOf side fresh = replicate 12 0
+verifyDataOf side (accepted h m resumes) =
+    pick (eqb (kindOf m) 20 && sameSide side (sideAt (placeOf h))) (bodyOf m) (verifyDataOf side h)
+verifyDataOf side (checked h m) = verifyDataOf side h

@@ -1,0 +1,32 @@
+-- What the calls promise: of every log that its number is one of the table and that a refused call hands back the very log; of a log that
+-- stands for a history that the answer is the definition's and that the next log stands for the next history.
+-- Assumes nothing.
+use mathlib.Core.Path.{_≡_}
+use mathlib.Core.Bool.{Bool}
+use mathlib.Core.List.{List}
+use Prim.Native.Nat.{ℕ, _≤_}
+use lib.ListN.{replicate}
+use Rattle.refusal.specs.Table.{refusalOf}
+use Rattle.refusal.specs.declared.Refusal.{Refusal}
+use Rattle.log.specs.History.{History}
+use Rattle.log.specs.Calls.{acceptNumber, afterAccept, sessionHashOf}
+use Rattle.log.specs.Stands.{Stands}
+use Rattle.log.specs.declared.state.Log.{Log}
+use Rattle.log.specs.declared.answers.Accepted.{Accepted}
+use Rattle.log.specs.declared.answers.SessionHash.{SessionHash}
+
+-- a row of document 01's table
+pub record Listed (r : Refusal) : Type 0 where
+  pub within : r .number ≤ 11
+  pub row : r ≡ refusalOf (r .number)
+
+pub record Accepts (log : Log) (m : List ℕ) (resumes : Bool) (r : Accepted) : Type 0 where
+  pub listed : Listed (r .refusal)
+  pub kept : (r .refusal .number ≡ 0 → ⊥) → r .log ≡ log
+  pub refusal : (h : History) → Stands log h → r .refusal ≡ refusalOf (acceptNumber h m resumes)
+  pub stands : (h : History) → Stands log h → Stands (r .log) (afterAccept h m resumes)
+
+pub record Hashes (log : Log) (r : SessionHash) : Type 0 where
+  pub listed : Listed (r .refusal)
+  pub nothing : (r .refusal .number ≡ 0 → ⊥) → r .hash ≡ replicate 32 0
+  pub answer : (h : History) → Stands log h → r ≡ sessionHashOf h

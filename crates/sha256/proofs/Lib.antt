@@ -1,0 +1,5 @@
+pub mod ByteWords
+pub mod Hashing
+pub mod Taking
+pub mod Padded
+pub mod OneShot

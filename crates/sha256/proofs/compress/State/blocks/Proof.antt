@@ -1,0 +1,62 @@
+-- The whole blocks one after the other, each where it lies.
+-- Assumes nothing.
+use mathlib.Core.Path.{_≡_}
+use Prim.Native.Nat.{suc, _+_, _-_, _/_, _%_, _≤_}
+use lib.ListN.{length, drop}
+use Rattle.sha256.specs.Sha256.{hashed}
+use Rattle.sha256.proofs.Hashing.{hashed-none, hashed-more}
+use native.Mathlib.Omega.{arith}
+use borrow.Author.Needs.{needs}
+use Rattle.sha256.proofs.compress.State.blocks.Statement.{statement}
+use Rattle.sha256.proofs.compress.State.blocks.Tie as tie
+
+abbrev Inv-loop : tie.InvT-loop
+Inv-loop b from v₀ at₀ v at = (from ≤ at) × (at ≤ length b) × ((at - from) % 64 ≡ 0) × (v ≡ hashed v₀ ((at - from) / 64) (drop from b))
+
+abbrev μ-loop : tie.MeasureT-loop
+μ-loop b from v₀ at₀ v at = length b - at
+
+loop-holds : tie.Need-loop-holds Inv-loop μ-loop
+loop-holds c =
+    let z : (c .before .args .from - c .before .args .from) / 64 ≡ 0 = omega arith in
+    (omega arith, omega arith, omega arith, rw z (hashed-none _ _))
+
+sub-loop : tie.Need-sub-loop Inv-loop μ-loop
+sub-loop c = omega arith
+
+compress-requires : tie.Need-compress-requires Inv-loop μ-loop
+compress-requires c κs = search needs
+
+add-at : tie.Need-add-at Inv-loop μ-loop
+add-at c = omega arith
+
+loop-less : tie.Need-loop-less Inv-loop μ-loop
+loop-less c = omega arith
+
+loop-again : tie.Need-loop-again Inv-loop μ-loop
+loop-again c =
+    let l = c .before .before in
+    let a = l .before .before .args in
+    let n : (l .loop .at + 64 - a .from) / 64 ≡ suc ((l .loop .at - a .from) / 64) = omega arith in
+    (omega arith, omega arith, omega arith, rw (n, c .compress .ensures, l .loop .inv .3) (hashed-more _ (a .b .now) (a .from) _ (l .loop .at) (omega arith)))
+
+returns : tie.Need-returns Inv-loop μ-loop
+returns c =
+    let l = c .before in
+    let a = l .before .before .args in
+    let n : (length (a .b .now) - a .from) / 64 ≡ (l .loop .at - a .from) / 64 = omega arith in
+    rw n (l .loop .inv .3)
+
+pub blocks-spec : {M : Type 1} → statement M
+blocks-spec =
+    tie.close
+    (tie.spec
+    Inv-loop
+    μ-loop
+    loop-holds
+    sub-loop
+    compress-requires
+    add-at
+    loop-less
+    loop-again
+    returns)

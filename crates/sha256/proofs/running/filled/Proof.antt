@@ -1,0 +1,69 @@
+-- The tail holds the first i of the bytes that it is to hold.
+-- Assumes nothing.
+use mathlib.Core.Path.{_≡_}
+use Prim.Native.Nat.{_-_, _≤_, _<_}
+use native.Mathlib.Numerals.{add-one}
+use borrow.Author.Needs.{needs}
+use lib.ListN.{length, drop, length-set, length-drop}
+use lib.Seq.{paste, paste-zero, paste-suc, getD-drop}
+use native.Mathlib.Omega.{arith}
+use Rattle.sha256.proofs.running.filled.Statement.{statement}
+use Rattle.sha256.proofs.running.filled.Tie as tie
+
+abbrev Inv-loop : tie.InvT-loop
+Inv-loop at b from n tail₀ i₀ tail i = (i ≤ n) × (length tail ≡ 64) × (tail ≡ paste tail₀ at (drop from b) i)
+
+abbrev μ-loop : tie.MeasureT-loop
+μ-loop at b from n tail₀ i₀ tail i = n - i
+
+loop-holds : tie.Need-loop-holds Inv-loop μ-loop
+loop-holds c = (omega arith, search needs, paste-zero (c .args .t) (c .args .at) (drop (c .args .from) (c .args .b .now)))
+
+add-tail : tie.Need-add-tail Inv-loop μ-loop
+add-tail c = omega arith
+
+shared-slice-read-tail : tie.Need-shared-slice-read-tail Inv-loop μ-loop
+shared-slice-read-tail c = omega arith
+
+add-tail-2 : tie.Need-add-tail-2 Inv-loop μ-loop
+add-tail-2 c = omega arith
+
+array-write-tail : tie.Need-array-write-tail Inv-loop μ-loop
+array-write-tail c = omega arith
+
+add-i : tie.Need-add-i Inv-loop μ-loop
+add-i c = omega arith
+
+loop-less : tie.Need-loop-less Inv-loop μ-loop
+loop-less c = omega arith
+
+loop-again : tie.Need-loop-again Inv-loop μ-loop
+loop-again c =
+    let l = c .before .before in
+    let a = l .before .args in
+    let s = drop (a .from) (a .b .now) in
+    let n : length (a .t) ≡ 64 = search needs in
+    let k : l .loop .i < length s = simp length-drop (omega arith) in
+    (omega arith, simp length-set (l .loop .inv .1), rw (add-one, l .loop .inv .2, ← getD-drop) (paste-suc (a .t) (a .at) s (l .loop .i) 0 (omega arith) k))
+
+returns : tie.Need-returns Inv-loop μ-loop
+returns c =
+    let l = c .before in
+    let e : l .loop .i ≡ l .before .args .n = omega arith in
+    rw e at (l .loop .inv .2)
+
+pub filled-spec : {M : Type 1} → statement M
+filled-spec =
+    tie.close
+    (tie.spec
+    Inv-loop
+    μ-loop
+    loop-holds
+    add-tail
+    shared-slice-read-tail
+    add-tail-2
+    array-write-tail
+    add-i
+    loop-less
+    loop-again
+    returns)

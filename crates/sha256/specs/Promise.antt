@@ -1,0 +1,33 @@
+-- What the calls promise.
+-- Assumes nothing.
+use mathlib.Core.Path.{_≡_}
+use mathlib.Core.List.{List, [], _∷_, _++_}
+use Prim.Native.Nat.{ℕ, _+_, _≤_, _<_}
+use lib.Dec.{ltb}
+use lib.ListN.{length, replicate}
+use Rattle.seqs.specs.Pick.{pick}
+use Rattle.refusal.specs.First.{firstOf}
+use Rattle.refusal.specs.Table.{refusalOf}
+use Rattle.sha256.specs.Running.{Running, taken, most}
+use Rattle.sha256.specs.Sha256.{sha256}
+use Rattle.sha256.specs.declared.running.Hash.{Hash}
+use Rattle.sha256.specs.declared.running.Absorbed.{Absorbed}
+use Rattle.sha256.specs.declared.running.Digested.{Digested}
+
+-- the number of a call that is to take n bytes after t others: 'more is 10'
+unfoldable pub absorbNumber : ℕ → ℕ → ℕ
+absorbNumber t n = firstOf ((10, ltb most (t + n)) ∷ [])
+
+-- taking bytes: the number, for every hash; a refused one is the hash itself; and what is taken is added at the end
+pub record Absorbs (hash : Hash) (bytes : List ℕ) (r : Absorbed) : Type 0 where
+  pub refusal : r .refusal ≡ refusalOf (absorbNumber (taken hash) (length bytes))
+  pub refused : most < taken hash + length bytes → r .hash ≡ hash
+  pub runs : (m : List ℕ) → Running hash m → length m + length bytes ≤ most → Running (r .hash) (m ++ bytes)
+
+-- the one-shot call
+unfoldable pub digestedOf : List ℕ → Digested
+digestedOf m =
+    record {
+      refusal = refusalOf (absorbNumber 0 (length m));
+      digest = pick (ltb most (length m)) (replicate 32 0) (sha256 m);
+    }

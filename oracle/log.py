@@ -1,0 +1,126 @@
+"""Document 01, 'The message log'."""
+
+import hashlib
+import re
+
+from .decision import Connection
+from .hello import MESSAGE_LIMIT, Malformed, frame
+from .secrets import verify_data
+
+# One letter a message; a Finished is C (client's) or S (server's). `?` marks what may be left out.
+LETTER = {1: "a", 2: "b", 11: "c", 12: "k", 13: "r", 14: "d", 15: "v", 16: "x"}
+FULL = ["abc?k?dxCS", "abc?k?rdcxv?CS"]  # without and with a CertificateRequest
+RESUMED = ["abSC"]
+
+
+def _beginnings(order):
+    """A regular expression for every beginning of the order."""
+    expression = ""
+    for step in reversed(re.findall(r"\w\??", order)):
+        expression = f"(?:{step}{expression})?"
+    return re.compile(expression + r"\Z")
+
+
+BEGINS = {False: [_beginnings(p) for p in FULL], True: [_beginnings(p) for p in RESUMED]}
+
+
+def in_order(word, resumed):
+    return any(p.match(word) for p in BEGINS[resumed])
+
+
+class Log:
+    def __init__(self):
+        self.word = ""  # accepted messages but type 0
+        self.hashed = b""
+        self.resumed = False
+        self.session = None
+        self.checked = None
+        self.values = {}
+
+    def _due(self):
+        """'C', 'S' or None: whose Finished is due."""
+        for side in "CS":
+            if "b" in self.word and in_order(self.word + side, self.resumed):
+                return side
+        return None
+
+    @staticmethod
+    def _frame_fault(message):
+        if len(message) > MESSAGE_LIMIT:
+            return 10
+        try:
+            kind, body = frame(message)
+        except Malformed:
+            return 1
+        if (kind == 0 and body) or (kind == 20 and len(body) != 12):
+            return 1
+        return 0
+
+    def accept(self, message, resumes=False):
+        fault = self._frame_fault(message)
+        if fault:
+            return fault
+        kind = message[0]
+        if kind == 0:
+            self.checked = None
+            return 0
+        if kind == 20:
+            side = self._due()
+            if side is None or self.checked != message:
+                return 7
+            self.values[side] = message[4:]
+            letter = side
+        else:
+            letter = LETTER.get(kind)
+            if letter is None or not in_order(self.word + letter, self.resumed):
+                return 7
+            if kind == 2:
+                self.resumed = resumes
+        self.word += letter
+        self.hashed += message
+        self.checked = None
+        if kind == 16:
+            self.session = hashlib.sha256(self.hashed).digest()
+        return 0
+
+    def session_hash(self):
+        """(number, hash)"""
+        return (7, bytes(32)) if self.session is None else (0, self.session)
+
+    def _value(self, secret, side):
+        return verify_data(secret, side == "S", hashlib.sha256(self.hashed).digest())
+
+    def expected_finished(self, secret):
+        """(number, value)"""
+        if len(secret) != 48:
+            return 10, bytes(12)
+        side = self._due()
+        if side is None:
+            return 7, bytes(12)
+        return 0, self._value(secret, side)
+
+    def check_finished(self, secret, message):
+        """number"""
+        if len(secret) != 48:
+            return 10
+        fault = self._frame_fault(message)
+        if fault:
+            return fault
+        side = self._due()
+        if message[0] != 20 or side is None:
+            return 7
+        if message[4:] != self._value(secret, side):
+            return 8
+        self.checked = message
+        return 0
+
+    @property
+    def complete(self):
+        return set(self.values) == {"C", "S"}
+
+
+def complete(record, log, decision):
+    """(number, record afterwards)"""
+    if not log.complete or decision.number or log.resumed != decision.resumes:
+        return 7, record
+    return 0, Connection(True, decision.indication, decision.bar, log.values["C"], log.values["S"])

@@ -1,0 +1,49 @@
+"""Document 01, program `loglist`."""
+
+import sys
+
+from . import decision
+from .book import Book
+from .log import Log
+
+LIMIT = 32_768
+
+
+def contents(case):
+    """The bodies, or None where the contents are bad."""
+    if len(case) > LIMIT or not case:
+        return None
+    count = case[0]
+    lengths = [case[1 + 2 * i : 3 + 2 * i] for i in range(count)]
+    if any(len(n) != 2 for n in lengths):
+        return None
+    lengths = [int.from_bytes(n, "big") for n in lengths]
+    rest = case[1 + 2 * count :]
+    if sum(lengths) != len(rest):
+        return None
+    bodies = []
+    for n in lengths:
+        bodies.append(rest[:n])
+        rest = rest[n:]
+    return bodies
+
+
+def loglist(case):
+    lines = ["message type log hello"]
+    bodies = contents(case)
+    if bodies is None:
+        lines.append("contents refused")
+        bodies = []
+    log, table = Log(), Book()
+    for i, body in enumerate(bodies, 1):
+        number = log.accept(body)
+        hello = "-"
+        if number == 0 and body[0] == 1:
+            made, _, _ = decision.server(body, 1, table.known, decision.Connection(), decision.Switches(), bytes(64))
+            hello = made.number
+        lines.append(f"{i} {body[0] if body else '-'} {number} {hello}")
+    return "\n".join(lines) + "\n"
+
+
+if __name__ == "__main__":
+    sys.stdout.write(loglist(sys.stdin.buffer.read()))

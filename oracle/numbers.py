@@ -1,0 +1,20 @@
+"""Document 01, 'Numbers answered'."""
+
+NONE, WARNING, FATAL = 0, 1, 2
+
+ALERTS = {
+    1: (FATAL, 50),  # decode_error
+    2: (FATAL, 47),  # illegal_parameter
+    3: (FATAL, 70),  # protocol_version
+    4: (FATAL, 110),  # unsupported_extension
+    5: (FATAL, 40),  # handshake_failure
+    6: (FATAL, 40),
+    7: (FATAL, 10),  # unexpected_message
+    8: (FATAL, 51),  # decrypt_error
+    9: (WARNING, 100),  # no_renegotiation
+}
+
+
+def refusal(number):
+    """(number, level, code); a number that the table does not have sends no alert."""
+    return (number, *ALERTS.get(number, (NONE, 0)))

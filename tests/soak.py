@@ -1,0 +1,118 @@
+"""Random bytes and random struct values into every call of the C face, between guard pages.
+
+Each lent slice stands flush against a page that may not be touched, behind it or before it, so that a read or a write
+outside ends the run; what stands around it in its own pages must be as it was, and so must every slice that is only read.
+
+  tests/soak.py [SECONDS [SEED]]      ten minutes and seed 1 where nothing is said
+"""
+
+import ctypes as c
+import mmap
+import pathlib
+import random
+import sys
+import time
+
+sys.path.insert(0, str(pathlib.Path(__file__).resolve().parent.parent))
+
+from tests import face, hellos  # noqa: E402
+
+PAGE = mmap.PAGESIZE
+LONGEST = 16_390
+ROOM = -(-LONGEST // PAGE) * PAGE
+LIBC = c.CDLL(None, use_errno=True)
+LIBC.mprotect.argtypes = [c.c_void_p, c.c_size_t, c.c_int]
+TABLE_NUMBERS = range(12)
+
+
+class Guarded:
+    """Pages of our own with an untouchable one on either side; slices are laid against one of the two."""
+
+    def __init__(self):
+        self.map = mmap.mmap(-1, ROOM + 2 * PAGE)
+        self.base = c.addressof(c.c_char.from_buffer(self.map))
+        for at in (self.base, self.base + PAGE + ROOM):
+            if LIBC.mprotect(at, PAGE, 0):
+                raise OSError(c.get_errno(), "mprotect")
+
+    def lay(self, data, at_end):
+        self.fill = 0xA5 if at_end else 0x5A
+        self.map[PAGE : PAGE + ROOM] = bytes([self.fill]) * ROOM
+        self.at = PAGE + (ROOM - len(data) if at_end else 0)
+        self.length = len(data)
+        self.map[self.at : self.at + len(data)] = data
+        return self.base + self.at
+
+    def now(self):
+        return self.map[self.at : self.at + self.length]
+
+    def around_untouched(self):
+        before, after = self.map[PAGE : self.at], self.map[self.at + self.length : PAGE + ROOM]
+        return not (before + after).strip(bytes([self.fill]))
+
+
+def some_bytes(r):
+    way = r.randrange(8)
+    if way == 0:
+        return r.randbytes(r.choice((0, 1, 3, 4, 12, 31, 32, 33, 47, 48, 49, 63, 64, 65)))
+    if way == 1:
+        return r.randbytes(r.randrange(300))
+    if way == 2:
+        return r.randbytes(r.choice((16_387, 16_388, 16_389, 512, 513)))
+    if way == 3:
+        return hellos.message(r.randrange(22), r.randbytes(r.choice((0, 12, 40))))
+    whole = hellos.some(r)
+    return whole if way < 6 else hellos.damaged(r, whole)[:LONGEST]
+
+
+def soak(seconds, seed):
+    """How many calls were made."""
+    r = random.Random(seed)
+    pages = [Guarded() for _ in range(3)]
+    kept = {}  # structs that calls answered, to be handed in again
+    made = 0
+    end = time.monotonic() + seconds
+    names = sorted(face.CALLS)
+    while time.monotonic() < end:
+        name = r.choice(names)
+        f, kinds = face.CALLS[name]
+        passed, lent = [], []
+        for kind in kinds:
+            if isinstance(kind, tuple):
+                page = pages[len(lent)]
+                data = some_bytes(r)
+                passed += [c.c_void_p(page.lay(data, r.random() < 0.5)), len(data)]
+                lent.append((page, kind is face.LENT, data))
+            elif issubclass(kind, c.Structure):
+                fresh = kind.from_buffer_copy(r.randbytes(c.sizeof(kind)))
+                passed.append(r.choice(kept[kind]) if kind in kept and r.random() < 0.7 else fresh)
+            elif issubclass(kind, c._Pointer):
+                passed.append(c.byref(kind._type_.from_buffer_copy(r.randbytes(c.sizeof(kind._type_)))))
+            else:
+                passed.append(r.choice((0, 1, 2, 3, 6, 7, r.randrange(256))))
+        argtypes, f.argtypes = f.argtypes, None
+        f.argtypes = [c.c_void_p if t is c.c_char_p else t for t in argtypes]
+        answer = f(*passed)
+        f.argtypes = argtypes
+        made += 1
+        refusal = getattr(answer, "refusal", answer if isinstance(answer, face.Refusal) else None)
+        if refusal is not None and name != "axle_refusal":
+            assert refusal.number in TABLE_NUMBERS, (name, refusal.number)
+        for page, written, data in lent:
+            assert page.around_untouched(), name
+            if not written or (refusal is not None and refusal.number):
+                assert page.now() == data, name
+        for field, kind in getattr(answer, "_fields_", ()):
+            if isinstance(getattr(answer, field), c.Structure) and kind is not face.Refusal:
+                kept.setdefault(kind, []).append(kind.from_buffer_copy(getattr(answer, field)))
+                del kept[kind][:-50]
+        if isinstance(answer, c.Structure):
+            kept.setdefault(type(answer), []).append(answer)
+            del kept[type(answer)][:-50]
+    return made
+
+
+if __name__ == "__main__":
+    seconds = float(sys.argv[1]) if len(sys.argv) > 1 else 600
+    seed = int(sys.argv[2]) if len(sys.argv) > 2 else 1
+    print(f"{soak(seconds, seed)} calls in {seconds:.0f} s, seed {seed}: nothing read or written outside, every call ended")
