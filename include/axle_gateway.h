@@ -84,6 +84,141 @@ AxleDigest axle_hash_digest(AxleHash hash);
 /* The digest of one whole message. 10 where it has more than 1,048,576 bytes. */
 AxleDigested axle_sha256(const uint8_t *message, size_t length);
 
+/* ---- HMAC and the master secrets -------------------------------------------------------------------------------- */
+
+typedef struct {
+    AxleRefusal refusal; /* 0, or 10 */
+    uint8_t tag[32];     /* refused: zeros */
+} AxleTagged;
+
+/* HMAC-SHA-256 of a message (RFC 2104). 10 where key or message has more than 65,536 bytes. */
+AxleTagged axle_hmac(const uint8_t *key, size_t key_length, const uint8_t *message, size_t message_length);
+
+/* The extended master secret (RFC 7627, section 4) to the first 48 bytes of `out`; what stands behind them stays.
+ * 10, with nothing written, where the pre-master secret has not 1 to 512 bytes, the session hash not 32, or `out` under 48. */
+AxleRefusal axle_extended_master_secret(const uint8_t *pre_master, size_t pre_master_length, const uint8_t *session_hash,
+                                        size_t session_hash_length, uint8_t *out, size_t out_length);
+
+/* The master secret of RFC 5246, section 8.1: `randoms` is the client's, then the server's, 64 bytes. Otherwise as above. */
+AxleRefusal axle_master_secret(const uint8_t *pre_master, size_t pre_master_length, const uint8_t *randoms,
+                               size_t randoms_length, uint8_t *out, size_t out_length);
+
+/* ---- Reading a hello -------------------------------------------------------------------------------------------- */
+
+/* A part of the message that was read: `length` bytes from place `at`, counted from the message's first byte. */
+typedef struct {
+    size_t at;
+    size_t length;
+} AxlePart;
+
+/* What a hello says by its extensions. */
+typedef struct {
+    uint8_t block;       /* there is an extension block, which may be empty */
+    AxlePart list;       /* the extensions in it */
+    uint8_t indicated;   /* renegotiation_info is there */
+    AxlePart indication; /* the bytes that it holds */
+    uint8_t ems;         /* extended_master_secret is there */
+    uint8_t others;      /* a type other than these two is there */
+} AxleExtensions;
+
+typedef struct {
+    uint16_t version;
+    AxlePart random;
+    AxlePart identifier;
+    AxlePart suites;
+    AxlePart methods;
+    uint8_t signal; /* 00 ff is among the suites */
+    AxleExtensions extensions;
+} AxleClientHello;
+
+typedef struct {
+    uint16_t version;
+    AxlePart random;
+    AxlePart identifier;
+    uint16_t suite;
+    uint8_t compression;
+    AxleExtensions extensions;
+} AxleServerHello;
+
+typedef struct {
+    AxleRefusal refusal;   /* 0, 1, 2, 3 or 10 */
+    AxleClientHello hello; /* refused: zeros */
+} AxleClientReading;
+
+typedef struct {
+    AxleRefusal refusal;   /* 0, 1, 2, 3 or 10 */
+    AxleServerHello hello; /* refused: zeros */
+} AxleServerReading;
+
+/* Reads one whole handshake message, header included: its fields, or the first fault. */
+AxleClientReading axle_read_client_hello(const uint8_t *message, size_t length);
+AxleServerReading axle_read_server_hello(const uint8_t *message, size_t length);
+
+/* ---- The session table ------------------------------------------------------------------------------------------ */
+
+typedef struct {
+    uint8_t axle;
+    uint8_t ems;
+    uint8_t size;
+    uint8_t identifier[32];
+    uint8_t secret[48];
+} AxleRow;
+
+/* The sessions of all six axles, at most 8 an axle and 32 in all. */
+typedef struct {
+    AxleRow rows[32];
+    size_t len;
+} AxleTable;
+
+typedef struct {
+    AxleRefusal refusal; /* 0, 10 or 11 */
+    AxleTable table;     /* the next state; refused: the one passed */
+} AxleStored;
+
+typedef struct {
+    AxleRefusal refusal; /* 0, 10 or 11 */
+    uint8_t found;
+    uint8_t ems; /* of the session found: was its secret made with extended_master_secret? */
+} AxleLooked;
+
+typedef struct {
+    AxleRefusal refusal; /* 0 or 11 */
+    uint8_t withdrawn;   /* was one there? */
+    AxleTable table;     /* the next state; refused: the one passed */
+} AxleWithdrawn;
+
+typedef struct {
+    AxleRefusal refusal; /* 0 or 11 */
+    uint8_t count;       /* how many sessions the axle holds */
+} AxleHeld;
+
+typedef struct {
+    AxleRefusal refusal; /* 0 */
+    AxleTable table;
+} AxleCleared;
+
+/* An empty table. */
+AxleTable axle_table_fresh(void);
+
+/* Stores a session: axle 1 to 6 and an identifier of 1 to 32 bytes, else 11; a secret of 48 bytes, else 10. A session
+ * under the same axle and identifier is replaced; where there is no room, the rules of document 01 say which one goes. */
+AxleStored axle_table_store(AxleTable table, uint8_t axle, const uint8_t *identifier, size_t identifier_length, uint8_t ems,
+                            const uint8_t *secret, size_t secret_length);
+
+/* Looks a session up. Found, its secret goes to the first 48 bytes of `out`; 10, with nothing written, where `out` is
+ * shorter. Where none is found nothing is written and no `out` is too short. */
+AxleLooked axle_table_look_up(AxleTable table, uint8_t axle, const uint8_t *identifier, size_t identifier_length, uint8_t *out,
+                              size_t out_length);
+
+/* Takes a session out of the table, if it is there. */
+AxleWithdrawn axle_table_withdraw(AxleTable table, uint8_t axle, const uint8_t *identifier, size_t identifier_length);
+
+/* How many sessions an axle holds. */
+AxleHeld axle_table_held(AxleTable table, uint8_t axle);
+
+/* Empties the table. */
+AxleCleared axle_table_clear(AxleTable table);
+
 #ifdef __cplusplus
 }
 #endif

@@ -15,6 +15,20 @@ def lend(data):
     return (u8 * len(data)).from_buffer_copy(data) if data else (u8 * 0)()
 
 
+def plain(value):
+    """A struct as nested tuples and bytes, without the padding between its fields."""
+    if isinstance(value, c.Structure):
+        return tuple(plain(getattr(value, name)) for name, _ in value._fields_)
+    if isinstance(value, c.Array):
+        return bytes(value) if value._type_ is u8 else tuple(plain(v) for v in value)
+    return value
+
+
+def zeros(kind):
+    """The struct of that kind with all fields zero, as plain() has it."""
+    return plain(kind())
+
+
 class Refusal(c.Structure):
     _fields_ = [("number", u8), ("level", u8), ("code", u8)]
 
@@ -69,3 +83,104 @@ hash_fresh = declare("axle_hash_fresh", Hash)
 hash_absorb = declare("axle_hash_absorb", Absorbed, Hash, BYTES)
 hash_digest = declare("axle_hash_digest", Digest, Hash)
 sha256 = declare("axle_sha256", Digested, BYTES)
+
+
+# Reading a hello
+
+
+class Part(c.Structure):
+    _fields_ = [("at", size), ("length", size)]
+
+    def of(self, message):
+        return message[self.at : self.at + self.length]
+
+
+class Extensions(c.Structure):
+    _fields_ = [("block", u8), ("list", Part), ("indicated", u8), ("indication", Part), ("ems", u8), ("others", u8)]
+
+
+class ClientHello(c.Structure):
+    _fields_ = [
+        ("version", u16),
+        ("random", Part),
+        ("identifier", Part),
+        ("suites", Part),
+        ("methods", Part),
+        ("signal", u8),
+        ("extensions", Extensions),
+    ]
+
+
+class ServerHello(c.Structure):
+    _fields_ = [
+        ("version", u16),
+        ("random", Part),
+        ("identifier", Part),
+        ("suite", u16),
+        ("compression", u8),
+        ("extensions", Extensions),
+    ]
+
+
+class ClientReading(c.Structure):
+    _fields_ = [("refusal", Refusal), ("hello", ClientHello)]
+
+
+class ServerReading(c.Structure):
+    _fields_ = [("refusal", Refusal), ("hello", ServerHello)]
+
+
+read_client_hello = declare("axle_read_client_hello", ClientReading, BYTES)
+read_server_hello = declare("axle_read_server_hello", ServerReading, BYTES)
+
+
+# The session table
+
+
+class Row(c.Structure):
+    _fields_ = [("axle", u8), ("ems", u8), ("size", u8), ("identifier", u8 * 32), ("secret", u8 * 48)]
+
+
+class Table(c.Structure):
+    _fields_ = [("rows", Row * 32), ("len", size)]
+
+
+class Stored(c.Structure):
+    _fields_ = [("refusal", Refusal), ("table", Table)]
+
+
+class Looked(c.Structure):
+    _fields_ = [("refusal", Refusal), ("found", u8), ("ems", u8)]
+
+
+class Withdrawn(c.Structure):
+    _fields_ = [("refusal", Refusal), ("withdrawn", u8), ("table", Table)]
+
+
+class Held(c.Structure):
+    _fields_ = [("refusal", Refusal), ("count", u8)]
+
+
+class Cleared(c.Structure):
+    _fields_ = [("refusal", Refusal), ("table", Table)]
+
+
+sizeof_table = c.sizeof(Table)
+table_fresh = declare("axle_table_fresh", Table)
+table_store = declare("axle_table_store", Stored, Table, u8, BYTES, u8, BYTES)
+table_look_up = declare("axle_table_look_up", Looked, Table, u8, BYTES, LENT)
+table_withdraw = declare("axle_table_withdraw", Withdrawn, Table, u8, BYTES)
+table_held = declare("axle_table_held", Held, Table, u8)
+table_clear = declare("axle_table_clear", Cleared, Table)
+
+
+# HMAC and the master secrets
+
+
+class Tagged(c.Structure):
+    _fields_ = [("refusal", Refusal), ("tag", u8 * 32)]
+
+
+hmac = declare("axle_hmac", Tagged, BYTES, BYTES)
+extended_master_secret = declare("axle_extended_master_secret", Refusal, BYTES, BYTES, LENT)
+master_secret = declare("axle_master_secret", Refusal, BYTES, BYTES, LENT)

@@ -25,13 +25,13 @@ use Rattle.log.specs.History.{History, placeOf, hashed, remembered}
 use Rattle.log.specs.History.History.{accepted}
 use Rattle.log.specs.Calls.{misshapen, shapeNumber, outOfTurn, isMessage, unchecked, acceptNumber, afterAccept}
 use Rattle.log.specs.Stands.{Stands, memory, finishedWith}
-use Rattle.log.specs.Promise.{Listed, Accepts}
+use Rattle.refusal.specs.Listed.{Listed, listed, numbered}
+use Rattle.log.specs.Promise.{Accepts}
 use Rattle.log.specs.Steps.{Judges, InTurn, Takes, forgetting}
 use Rattle.log.specs.declared.shape.Judged.{Judged}
 use Rattle.log.specs.declared.state.Log.{Log}
 use Rattle.log.specs.declared.answers.Accepted.{Accepted}
 use Rattle.log.proofs.Turns.{placeAt-number, somewhere-number, number-most}
-use Rattle.log.proofs.Refusals.{listed, numbered}
 use Rattle.log.proofs.Messages.{Fine, fine, shape-most}
 use Rattle.log.proofs.Standing.{far, forgetting-stands, taking-stands}
 

@@ -16,7 +16,7 @@ use Rattle.log.specs.Stands.{Stands}
 use Rattle.log.specs.Promise.{Hashes}
 use Rattle.log.specs.declared.state.Log.{Log}
 use Rattle.log.specs.declared.answers.Finished.{Finished}
-use Rattle.log.proofs.Refusals.{listed, numbered}
+use Rattle.refusal.specs.Listed.{listed, numbered}
 
 module _ (log : Log) (r : Refusal) (b : Bool) (e : b ≡ (leb 9 (log .place) && leb (log .place) 13)) where
   exchanged-by : (h : History) → Stands log h → exchanged (placeOf h) ≡ b

@@ -1,6 +1,7 @@
 pub mod Turns
-pub mod Refusals
 pub mod Messages
 pub mod Standing
 pub mod Accepting
 pub mod Asking
+pub mod Checking
+pub mod Orders

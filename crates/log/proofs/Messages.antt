@@ -19,7 +19,7 @@ use Rattle.message.specs.declared.header.Header.{Header}
 use Rattle.message.specs.declared.header.Framed.the-variants.{Whole, Refused}
 use Rattle.message.proofs.Frames.{whole-learnt, refused-learnt}
 use Rattle.log.specs.Steps.{Judges}
-use Rattle.log.proofs.Refusals.{numbered}
+use Rattle.refusal.specs.Listed.{numbered}
 
 or-left : (a b : Bool) → (a || b) ≡ false → a ≡ false
 or-left true b e = e

@@ -3,7 +3,7 @@
 use mathlib.Core.Path.{_≡_, refl, sym, _∙_, ap}
 use mathlib.Core.Bool.{Bool, true, false, not, _&&_, false≢true}
 use mathlib.Core.List.{List, [], _∷_}
-use Prim.Native.Nat.{ℕ, suc, _≤_, _<_, zero-le}
+use Prim.Native.Nat.{ℕ, zero, suc, _≤_, _<_, zero-le}
 use native.Mathlib.Omega.{arith}
 use lib.Dec.{eqb, ltb}
 use lib.ListN.{List·getD-eq-default}
@@ -126,6 +126,14 @@ abbrev Other : ℕ → List ℕ → Type 0
 Other n [] = Unit {0}
 Other n (k ∷ ks) = Other n ks × (n ≡ k → ⊥)
 
+abbrev below : ℕ → List ℕ
+below zero = []
+below (suc k) = k ∷ below k
+
+at-least : (k n : ℕ) → Other n (below k) → k ≤ n
+at-least zero n h = zero-le
+at-least (suc k) n h = up k n (at-least k n (h .0)) (h .1)
+
 -- the last arm of the code: what is left are places with nothing in turn
 pub quiet : (resumes : Bool) (n kind : ℕ)
     → Other n (15 ∷ 14 ∷ 12 ∷ 11 ∷ 10 ∷ 9 ∷ 8 ∷ 7 ∷ 6 ∷ 5 ∷ 4 ∷ 3 ∷ 2 ∷ 1 ∷ 0 ∷ [])
@@ -134,8 +142,7 @@ unfolding number look turns placeAt
 quiet resumes n kind h = by-test (eqb n 13) refl (eqb n 16) refl
   where
     full : 13 ≤ n
-    full =
-        up 12 n (up 11 n (up 10 n (up 9 n (up 8 n (up 7 n (up 6 n (up 5 n (up 4 n (up 3 n (up 2 n (up 1 n (up 0 n (zero-le) (h .0 .0 .0 .0 .0 .0 .0 .0 .0 .0 .0 .0 .0 .0 .1)) (h .0 .0 .0 .0 .0 .0 .0 .0 .0 .0 .0 .0 .0 .1)) (h .0 .0 .0 .0 .0 .0 .0 .0 .0 .0 .0 .0 .1)) (h .0 .0 .0 .0 .0 .0 .0 .0 .0 .0 .0 .1)) (h .0 .0 .0 .0 .0 .0 .0 .0 .0 .0 .1)) (h .0 .0 .0 .0 .0 .0 .0 .0 .0 .1)) (h .0 .0 .0 .0 .0 .0 .0 .0 .1)) (h .0 .0 .0 .0 .0 .0 .0 .1)) (h .0 .0 .0 .0 .0 .0 .1)) (h .0 .0 .0 .0 .0 .1)) (h .0 .0 .0 .0 .1)) (h .0 .0 .0 .1)) (h .0 .0 .1)
+    full = at-least 13 n (h .0 .0)
 
     by-test : (a : Bool) → eqb n 13 ≡ a → (b : Bool) → eqb n 16 ≡ b → number (look kind (turns resumes (placeAt n))) ≡ 17
     by-test true e b f = rw (eqb-true n 13 e)
@@ -147,24 +154,7 @@ quiet resumes n kind h = by-test (eqb n 13) refl (eqb n 16) refl
 -- a number that is not nowhere's
 pub somewhere-number : (p : Place) → not (eqb (number p) 17) ≡ somewhere p
 unfolding somewhere number
-somewhere-number beginning = refl
-somewhere-number clientHello = refl
-somewhere-number serverHello = refl
-somewhere-number serverCertificate = refl
-somewhere-number serverKeyExchange = refl
-somewhere-number certificateRequest = refl
-somewhere-number helloDone = refl
-somewhere-number helloDoneRequested = refl
-somewhere-number clientCertificate = refl
-somewhere-number keyExchange = refl
-somewhere-number keyExchangeCertified = refl
-somewhere-number certificateVerify = refl
-somewhere-number clientFirst = refl
-somewhere-number completeFull = refl
-somewhere-number resumingHello = refl
-somewhere-number serverFirst = refl
-somewhere-number completeResumed = refl
-somewhere-number nowhere = refl
+somewhere-number p = refl
 
 pub due-number : (p : Place) (r : ℕ) → r ≡ number (look 20 (turns false p)) → not (eqb r 17) ≡ finishedDue p
 unfolding finishedDue

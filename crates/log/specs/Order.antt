@@ -1,10 +1,10 @@
 -- The order of a handshake's messages (document 01, 'The message log'), as an automaton on their types (HandshakeType of RFC 5246,
 -- section 7.4).
 -- Assumes nothing.
-use mathlib.Core.Bool.{Bool, true, false, _&&_, _||_}
+use mathlib.Core.Bool.{Bool, true, false, not, _&&_, _||_}
 use mathlib.Core.List.{List, [], _∷_}
 use Prim.Native.Nat.{ℕ}
-use lib.Dec.{eqb, leb, ltb}
+use lib.Dec.{eqb, leb}
 use lib.ListN.{getD}
 use Rattle.seqs.specs.Pick.{pick}
 
@@ -58,7 +58,7 @@ unfoldable pub look : ℕ → List (ℕ × Place) → Place
 look kind [] = nowhere
 look kind ((due, place) ∷ rest) = pick (eqb kind due) place (look kind rest)
 
--- The places' numbers rise along the order.
+-- the places' numbers, which rise along the order
 unfoldable pub number : Place → ℕ
 number beginning = 0
 number clientHello = 1
@@ -89,8 +89,15 @@ places =
 unfoldable pub placeAt : ℕ → Place
 placeAt n = getD places n nowhere
 
+-- the same place; a place of the order from one to another
+abbrev pub isPlace : Place → Place → Bool
+isPlace p q = eqb (number p) (number q)
+
+abbrev pub between : Place → Place → Place → Bool
+between first last p = leb (number first) (number p) && leb (number p) (number last)
+
 unfoldable pub somewhere : Place → Bool
-somewhere p = ltb (number p) (number nowhere)
+somewhere p = not (isPlace p nowhere)
 
 -- is a Finished, type 20, in turn? (What was told counts with a ServerHello alone.)
 unfoldable pub finishedDue : Place → Bool
@@ -101,19 +108,19 @@ pub data Side : Type 0 where
 
 -- whose Finished is in turn: the server's after the client's in the full order, and after the ServerHello in the resumed one
 unfoldable pub fromServer : Place → Bool
-fromServer p = eqb (number p) (number clientFirst) || eqb (number p) (number resumingHello)
+fromServer p = isPlace p clientFirst || isPlace p resumingHello
 
 unfoldable pub sideAt : Place → Side
 sideAt p = pick (fromServer p) server client
 
 -- the full order from its ClientKeyExchange on
 unfoldable pub exchanged : Place → Bool
-exchanged p = leb (number keyExchange) (number p) && leb (number p) (number completeFull)
+exchanged p = between keyExchange completeFull p
+
+-- the resumed order, from its ServerHello on
+unfoldable pub resumed : Place → Bool
+resumed p = between resumingHello completeResumed p
 
 -- both Finished are taken
 unfoldable pub complete : Place → Bool
-complete p = eqb (number p) (number completeFull) || eqb (number p) (number completeResumed)
-
--- the resumed order
-unfoldable pub resumed : Place → Bool
-resumed p = leb (number resumingHello) (number p) && leb (number p) (number completeResumed)
+complete p = isPlace p completeFull || isPlace p completeResumed

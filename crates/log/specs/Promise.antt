@@ -4,21 +4,19 @@
 use mathlib.Core.Path.{_≡_}
 use mathlib.Core.Bool.{Bool}
 use mathlib.Core.List.{List}
-use Prim.Native.Nat.{ℕ, _≤_}
+use Prim.Native.Nat.{ℕ}
 use lib.ListN.{replicate}
 use Rattle.refusal.specs.Table.{refusalOf}
-use Rattle.refusal.specs.declared.Refusal.{Refusal}
+use Rattle.refusal.specs.Listed.{Listed}
 use Rattle.log.specs.History.{History}
 use Rattle.log.specs.Calls.{acceptNumber, afterAccept, sessionHashOf}
+use Rattle.log.specs.Check.{checkNumber, afterCheck, expectedOf}
 use Rattle.log.specs.Stands.{Stands}
 use Rattle.log.specs.declared.state.Log.{Log}
 use Rattle.log.specs.declared.answers.Accepted.{Accepted}
+use Rattle.log.specs.declared.answers.Checked.{Checked}
 use Rattle.log.specs.declared.answers.SessionHash.{SessionHash}
-
--- a row of document 01's table
-pub record Listed (r : Refusal) : Type 0 where
-  pub within : r .number ≤ 11
-  pub row : r ≡ refusalOf (r .number)
+use Rattle.log.specs.declared.answers.Expected.{Expected}
 
 pub record Accepts (log : Log) (m : List ℕ) (resumes : Bool) (r : Accepted) : Type 0 where
   pub listed : Listed (r .refusal)
@@ -26,7 +24,18 @@ pub record Accepts (log : Log) (m : List ℕ) (resumes : Bool) (r : Accepted) : 
   pub refusal : (h : History) → Stands log h → r .refusal ≡ refusalOf (acceptNumber h m resumes)
   pub stands : (h : History) → Stands log h → Stands (r .log) (afterAccept h m resumes)
 
+pub record Checks (log : Log) (secret m : List ℕ) (r : Checked) : Type 0 where
+  pub listed : Listed (r .refusal)
+  pub kept : (r .refusal .number ≡ 0 → ⊥) → r .log ≡ log
+  pub refusal : (h : History) → Stands log h → r .refusal ≡ refusalOf (checkNumber h secret m)
+  pub stands : (h : History) → Stands log h → Stands (r .log) (afterCheck h secret m)
+
 pub record Hashes (log : Log) (r : SessionHash) : Type 0 where
   pub listed : Listed (r .refusal)
   pub nothing : (r .refusal .number ≡ 0 → ⊥) → r .hash ≡ replicate 32 0
   pub answer : (h : History) → Stands log h → r ≡ sessionHashOf h
+
+pub record Expects (log : Log) (secret : List ℕ) (r : Expected) : Type 0 where
+  pub listed : Listed (r .refusal)
+  pub nothing : (r .refusal .number ≡ 0 → ⊥) → r .value ≡ replicate 12 0
+  pub answer : (h : History) → Stands log h → r ≡ expectedOf h secret

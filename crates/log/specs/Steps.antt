@@ -12,7 +12,7 @@ use Rattle.log.specs.History.{History, placeOf}
 use Rattle.log.specs.History.History.{accepted}
 use Rattle.log.specs.Calls.{shapeNumber}
 use Rattle.log.specs.Stands.{Stands}
-use Rattle.log.specs.Promise.{Listed}
+use Rattle.refusal.specs.Listed.{Listed}
 use Rattle.log.specs.declared.shape.Judged.{Judged}
 use Rattle.log.specs.declared.state.Log.{Log}
 use Rattle.log.specs.declared.answers.Accepted.{Accepted}

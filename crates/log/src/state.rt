@@ -37,12 +37,6 @@ pub struct Log {
     pub server: [u8; 12],
 }
 
-const HELLO_REQUEST: u8 = 0;
-
-const CLIENT_KEY_EXCHANGE: u8 = 16;
-
-const FINISHED: u8 = 20;
-
 impl Log {
     pub fn fresh() -> Log
         ensures { λ r. ⌜ Stands r fresh ⌝ }
@@ -68,14 +62,14 @@ impl Log {
             return self.refused(judged.number);
         }
         let kind = judged.kind;
-        if kind == HELLO_REQUEST {
+        if kind == shape::HELLO_REQUEST {
             return self.passed();
         }
         let place = order::next(self.place, kind, resumes);
         if place == order::NOWHERE {
             return self.refused(7);
         }
-        if kind == FINISHED {
+        if kind == shape::FINISHED {
             if self.remembers(message) {
                 return self.taken(message, kind, place);
             }
@@ -146,7 +140,7 @@ impl Log {
     fn session_with(self, hash: Hash, kind: u8) -> [u8; 32]
         ensures { λ r. ⌜ ((m : List ℕ) → Running hash m → r ≡ pick (eqb kind 16) (sha256 m) (self .session)) ⌝ }
     {
-        if kind == CLIENT_KEY_EXCHANGE {
+        if kind == shape::CLIENT_KEY_EXCHANGE {
             return hash.digest();
         }
         self.session
@@ -156,7 +150,7 @@ impl Log {
     fn client_with(self, kind: u8) -> [u8; 12]
         ensures { λ r. ⌜ r ≡ pick (eqb kind 20 && not (eqb (self .place) 12 || eqb (self .place) 14)) (self .value) (self .client) ⌝ }
     {
-        if kind != FINISHED {
+        if kind != shape::FINISHED {
             return self.client;
         }
         if order::from_server(self.place) {
@@ -168,7 +162,7 @@ impl Log {
     fn server_with(self, kind: u8) -> [u8; 12]
         ensures { λ r. ⌜ r ≡ pick (eqb kind 20 && (eqb (self .place) 12 || eqb (self .place) 14)) (self .value) (self .server) ⌝ }
     {
-        if kind != FINISHED {
+        if kind != shape::FINISHED {
             return self.server;
         }
         if order::from_server(self.place) {

@@ -19,7 +19,7 @@ use Rattle.sha256.specs.Constants.{initial}
 use Rattle.sha256.specs.Compress.{step, output}
 use Rattle.sha256.specs.Sha256.{padded, hashed, sha256}
 use Rattle.sha256.specs.Running.{Running, taken, most}
-use Rattle.sha256.specs.Promise.{absorbNumber}
+use Rattle.sha256.specs.Promise.{absorbNumber, digestedOf}
 use Rattle.sha256.specs.declared.compress.State.{State}
 use Rattle.sha256.specs.declared.running.Hash.{Hash}
 
@@ -105,3 +105,8 @@ bytes-bytesOf (x ∷ xs) = bytes-append (inBytes big 4 x) (bytesOf xs) (bytes-in
 pub bytes-sha256 : (m : List ℕ) → Bytes (sha256 m)
 unfolding sha256 output
 bytes-sha256 m = bytes-bytesOf _
+
+-- the digest of the one-shot call, within the bound
+pub digested-within : (m : List ℕ) → length m ≤ most → digestedOf m .digest ≡ sha256 m
+unfolding digestedOf
+digested-within m h = rw (le-ltb most (length m) h)

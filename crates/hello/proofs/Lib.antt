@@ -1,0 +1,9 @@
+pub mod Vectors
+pub mod Lists
+pub mod Walks
+pub mod Closings
+pub mod Hellos
+pub mod Answers
+pub mod Inversions
+pub mod Learnt
+pub mod Cases

@@ -1,0 +1,76 @@
+-- The questions that walks ask of a list of extensions, one extension at a time.
+-- Assumes nothing.
+use mathlib.Core.Path.{_≡_, sym, _∙_, ap}
+use mathlib.Core.Bool.{true, false}
+use mathlib.Core.List.{List, [], _∷_}
+use Prim.Native.Nat.{ℕ, zero, suc, _+_, _≤_}
+use native.Mathlib.Nat.{add-zero}
+use native.Mathlib.Omega.{arith}
+use lib.Dec.{eqb}
+use lib.ListN.{length, take, drop, length-drop}
+use lib.Seq.{length-take-le}
+use borrow.Author.Tests.{eq-eqb, ne-eqb}
+use Rattle.message.specs.Numbers.{byteAt}
+use Rattle.hello.specs.Extensions.{Extension, emsKind, riKind, shaped, knownKind, has, twice, othersOf}
+use Rattle.hello.specs.Places.{part, partOf}
+use Rattle.hello.proofs.Vectors.{byte-drop}
+
+-- the first of n bytes, counted: where n is 0 there is none, and no count of it is 0
+same-count : (n b : ℕ) (l : List ℕ) → b ≡ byteAt l 0 → eqb n (1 + b) ≡ eqb n (1 + byteAt (take n l) 0)
+unfolding byteAt
+same-count zero b l e = ne-eqb 0 (1 + b) (λ z. omega arith) ∙ sym (ne-eqb 0 (1 + byteAt (take zero l) 0) (λ z. omega arith))
+same-count (suc k) b [] e = rw e
+same-count (suc k) b (x ∷ l) e = rw e
+
+-- the shape of the n bytes at a place
+module _ (m : List ℕ) (t at n : ℕ) (h : at + n ≤ length m) where
+  size : length (take n (drop at m)) ≡ n
+  size = length-take-le n (drop at m) (rw length-drop (omega arith))
+
+  pub shape-ems : t ≡ emsKind → eqb n 0 ≡ shaped t (take n (drop at m))
+  unfolding shaped
+  shape-ems e = rw (eq-eqb t emsKind e, size)
+
+  pub shape-ri : (b : ℕ) → b ≡ byteAt m at → (t ≡ emsKind → ⊥) → t ≡ riKind → eqb n (1 + b) ≡ shaped t (take n (drop at m))
+  unfolding shaped
+  shape-ri b f d e = rw (ne-eqb t emsKind d, eq-eqb t riKind e, size) (same-count n b (drop at m) (f ∙ sym (byte-drop m at 0 ∙ ap (byteAt m) (add-zero at))))
+
+  pub shape-other : (t ≡ emsKind → ⊥) → (t ≡ riKind → ⊥) → true ≡ shaped t (take n (drop at m))
+  unfolding shaped
+  shape-other d e = rw (ne-eqb t emsKind d, ne-eqb t riKind e)
+
+pub known-other : (t : ℕ) → (t ≡ emsKind → ⊥) → eqb t riKind ≡ knownKind t
+known-other t d = rw (ne-eqb t emsKind d)
+
+module _ (e : Extension) (es : List Extension) where
+  pub part-here : (t at : ℕ) → e .kind ≡ t → partOf t at (e ∷ es) ≡ part (at + 4) (length (e .content))
+  unfolding partOf
+  part-here t at h = rw (eq-eqb (e .kind) t h)
+
+  pub part-later : (t at n : ℕ) → (e .kind ≡ t → ⊥) → length (e .content) ≡ n → partOf t at (e ∷ es) ≡ partOf t (at + 4 + n) es
+  unfolding partOf
+  part-later t at n h s = rw (ne-eqb (e .kind) t h, s)
+
+  pub has-here : (t : ℕ) → e .kind ≡ t → has t (e ∷ es) ≡ true
+  unfolding has
+  has-here t h = rw (eq-eqb (e .kind) t h)
+
+  pub has-later : (t : ℕ) → (e .kind ≡ t → ⊥) → has t (e ∷ es) ≡ has t es
+  unfolding has
+  has-later t h = rw (ne-eqb (e .kind) t h)
+
+  pub twice-here : has (e .kind) es ≡ true → twice (e ∷ es) ≡ true
+  unfolding twice
+  twice-here h = rw h
+
+  pub twice-later : has (e .kind) es ≡ false → twice (e ∷ es) ≡ twice es
+  unfolding twice
+  twice-later h = rw h
+
+  pub others-here : knownKind (e .kind) ≡ false → othersOf (e ∷ es) ≡ true
+  unfolding othersOf
+  others-here h = rw h
+
+  pub others-later : knownKind (e .kind) ≡ true → othersOf (e ∷ es) ≡ othersOf es
+  unfolding othersOf
+  others-later h = rw h

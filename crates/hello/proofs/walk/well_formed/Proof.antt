@@ -1,0 +1,107 @@
+-- The walk that tests each extension.
+-- Assumes nothing.
+use mathlib.Core.Path.{_≡_, refl, sym, _∙_}
+use Prim.Native.Nat.{_-_, _≤_}
+use lib.ListN.{length}
+use borrow.Author.Tests.{not-true, not-false}
+use Rattle.hello.specs.Cuts.{wellFormedAt}
+use Rattle.hello.proofs.Lists.{whole-end, whole-short, whole-long, whole-bad, whole-next}
+use native.Mathlib.Omega.{arith}
+use borrow.Author.Needs.{needs}
+use Rattle.hello.proofs.walk.well_formed.Statement.{statement}
+use Rattle.hello.proofs.walk.well_formed.Tie as tie
+
+abbrev Inv-loop : tie.InvT-loop
+Inv-loop message at i₀ i = (i ≤ length message) × (wellFormedAt message at ≡ wellFormedAt message i)
+
+abbrev μ-loop : tie.MeasureT-loop
+μ-loop message at i₀ i = length message - i
+
+loop-holds : tie.Need-loop-holds Inv-loop μ-loop
+loop-holds c = (c .before .pre, refl)
+
+sub-if1 : tie.Need-sub-if1 Inv-loop μ-loop
+sub-if1 c = omega arith
+
+returns : tie.Need-returns Inv-loop μ-loop
+returns c =
+    let l = c .before .before in
+    sym (l .loop .inv .1 ∙ whole-short (l .before .before .args .message .now) (l .loop .i) (omega arith) (c .if1 .taken))
+
+add-pair : tie.Need-add-pair Inv-loop μ-loop
+add-pair c = omega arith
+
+pair-requires : tie.Need-pair-requires Inv-loop μ-loop
+pair-requires c κs = search needs
+
+sub-if2 : tie.Need-sub-if2 Inv-loop μ-loop
+sub-if2 c = omega arith
+
+sub-if2-2 : tie.Need-sub-if2-2 Inv-loop μ-loop
+sub-if2-2 c = omega arith
+
+returns-2 : tie.Need-returns-2 Inv-loop μ-loop
+returns-2 c =
+    let l = c .before .before .before .before in
+    sym (l .loop .inv .1 ∙ whole-long (l .before .before .args .message .now) (l .loop .i) _ (c .before .pair .result) refl (c .before .pair .ensures .0) (omega arith) (omega arith))
+
+pair-requires-2 : tie.Need-pair-requires-2 Inv-loop μ-loop
+pair-requires-2 c κs = search needs
+
+add-well-shaped : tie.Need-add-well-shaped Inv-loop μ-loop
+add-well-shaped c = omega arith
+
+well-shaped-requires : tie.Need-well-shaped-requires Inv-loop μ-loop
+well-shaped-requires c κs = search needs
+
+returns-3 : tie.Need-returns-3 Inv-loop μ-loop
+returns-3 c =
+    let p = c .before .before in
+    let q = p .before .before in
+    let l = q .before .before .before in
+    sym (l .loop .inv .1 ∙ whole-bad (l .before .before .args .message .now) (l .loop .i) (p .pair2 .result) (q .pair .result) (p .pair2 .ensures .0) (q .pair .ensures .0) (omega arith) (omega arith) (sym (c .before .well-shaped .ensures) ∙ not-true _ (c .if3 .taken)))
+
+add-i : tie.Need-add-i Inv-loop μ-loop
+add-i c = omega arith
+
+add-i-2 : tie.Need-add-i-2 Inv-loop μ-loop
+add-i-2 c = omega arith
+
+loop-less : tie.Need-loop-less Inv-loop μ-loop
+loop-less c = omega arith
+
+loop-again : tie.Need-loop-again Inv-loop μ-loop
+loop-again c =
+    let p = c .before .before in
+    let q = p .before .before in
+    let l = q .before .before .before in
+    (omega arith, l .loop .inv .1 ∙ whole-next (l .before .before .args .message .now) (l .loop .i) (p .pair2 .result) (q .pair .result) (p .pair2 .ensures .0) (q .pair .ensures .0) (omega arith) (omega arith) (sym (c .before .well-shaped .ensures) ∙ not-false _ (c .if3 .left)))
+
+returns-4 : tie.Need-returns-4 Inv-loop μ-loop
+returns-4 c =
+    let l = c .before in
+    sym (l .loop .inv .1 ∙ whole-end (l .before .before .args .message .now) (l .loop .i) (omega arith))
+
+pub well-formed-spec : {M : Type 1} → statement M
+well-formed-spec =
+    tie.close
+    (tie.spec
+    Inv-loop
+    μ-loop
+    loop-holds
+    sub-if1
+    returns
+    add-pair
+    pair-requires
+    sub-if2
+    sub-if2-2
+    returns-2
+    pair-requires-2
+    add-well-shaped
+    well-shaped-requires
+    returns-3
+    add-i
+    add-i-2
+    loop-less
+    loop-again
+    returns-4)

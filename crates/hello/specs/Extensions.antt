@@ -1,0 +1,91 @@
+-- The extensions of a hello (RFC 5246, section 7.4.1.4): renegotiation_info (RFC 5746), 'RI', and extended_master_secret
+-- (RFC 7627), 'EMS', among them.
+-- Assumes nothing.
+use mathlib.Core.Bool.{Bool, true, false, not, _||_}
+use mathlib.Core.List.{List, [], _∷_}
+use mathlib.Core.Option.{Option, none, some}
+use Prim.Native.Nat.{ℕ, zero, suc, _+_}
+use lib.Dec.{eqb}
+use lib.ListN.{length, drop}
+use Rattle.seqs.specs.Pick.{pick}
+use Rattle.message.specs.Numbers.{byteAt}
+use Rattle.hello.specs.Layout.{Parse, malformed, holds, big, field, counted}
+
+pub record Extension : Type 0 where
+  -- the extension's type
+  pub kind : ℕ
+  pub content : List ℕ
+
+-- 00 17
+abbrev pub emsKind : ℕ
+emsKind = 23
+
+-- ff 01
+abbrev pub riKind : ℕ
+riKind = 65281
+
+-- 'Type 00 17, extended_master_secret, has no data. Type ff 01, renegotiation_info, has one length byte and exactly that many
+-- bytes. Another shape of either is 1.'
+unfoldable pub shaped : ℕ → List ℕ → Bool
+shaped t d =
+    pick (eqb t emsKind) (eqb (length d) 0)
+    (pick (eqb t riKind) (eqb (length d) (1 + byteAt d 0)) true)
+
+-- 'each type 2, length 2, data': one from the front, and what follows it
+unfoldable pub extension : List ℕ → (Extension → List ℕ → Parse (List Extension)) → Parse (List Extension)
+extension l then =
+    field 2 l
+    (λ t r.
+    counted 2 r
+    (λ d rest.
+    pick (shaped (big t) d) (then (record { kind = big t; content = d }) rest) malformed))
+
+-- one more, in front
+abbrev pub more : Extension → Parse (List Extension) → Parse (List Extension)
+more e malformed = malformed
+more e (holds es) = holds (e ∷ es)
+
+-- at most n extensions, and nothing after them
+unfoldable pub listOf : ℕ → List ℕ → Parse (List Extension)
+listOf zero l = pick (eqb (length l) 0) (holds []) malformed
+listOf (suc n) l = pick (eqb (length l) 0) (holds []) (extension l (λ e rest. more e (listOf n rest)))
+
+-- all of them: there are no more than bytes
+unfoldable pub extensionsOf : List ℕ → Parse (List Extension)
+extensionsOf l = listOf (length l) l
+
+-- an extension of type t is among them
+unfoldable pub has : ℕ → List Extension → Bool
+has t [] = false
+has t (e ∷ es) = eqb (e .kind) t || has t es
+
+-- 'Every pair of extension types is compared': a type stands twice
+unfoldable pub twice : List Extension → Bool
+twice [] = false
+twice (e ∷ es) = has (e .kind) es || twice es
+
+-- what the first extension of type t holds
+unfoldable pub contentOf : ℕ → List Extension → Option (List ℕ)
+contentOf t [] = none
+contentOf t (e ∷ es) = pick (eqb (e .kind) t) (some (e .content)) (contentOf t es)
+
+-- the bytes of an RI, behind its length byte
+abbrev pub bytesOf : Option (List ℕ) → Option (List ℕ)
+bytesOf none = none
+bytesOf (some d) = some (drop 1 d)
+
+-- the bytes of the RI, or none where there is no RI
+unfoldable pub indicationOf : List Extension → Option (List ℕ)
+indicationOf es = bytesOf (contentOf riKind es)
+
+-- EMS is there
+abbrev pub emsOf : List Extension → Bool
+emsOf es = has emsKind es
+
+abbrev pub knownKind : ℕ → Bool
+knownKind t = eqb t emsKind || eqb t riKind
+
+-- a type other than these two is there
+unfoldable pub othersOf : List Extension → Bool
+othersOf [] = false
+othersOf (e ∷ es) = not (knownKind (e .kind)) || othersOf es

@@ -1,0 +1,5 @@
+pub mod Layout
+pub mod Extensions
+pub mod Fields
+pub mod Places
+pub mod Cuts

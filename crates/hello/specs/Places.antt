@@ -1,0 +1,117 @@
+-- The answers of the two readers: the fields as places in the message, counted from its first byte, or the refusal. Every place
+-- follows from the lengths of the fields before it.
+-- Assumes nothing.
+use mathlib.Core.Path.{_≡_}
+use mathlib.Core.Bool.{Bool}
+use mathlib.Core.List.{List, [], _∷_}
+use Prim.Native.Nat.{ℕ, _+_, _-_, _≤_}
+use lib.Dec.{eqb}
+use lib.ListN.{length, take, drop}
+use Rattle.seqs.specs.Pick.{pick}
+use Rattle.seqs.specs.Flag.{bit}
+use Rattle.refusal.specs.Table.{refusalOf}
+use Rattle.refusal.specs.declared.Refusal.{Refusal}
+use Rattle.hello.specs.Layout.{big}
+use Rattle.hello.specs.Extensions.{Extension, riKind, emsKind, has, othersOf}
+use Rattle.hello.specs.Fields.{Hello, Reading, fields, fault, signalIn}
+use Rattle.hello.specs.declared.parts.Part.{Part}
+use Rattle.hello.specs.declared.parts.Extensions.{Extensions}
+use Rattle.hello.specs.declared.client.ClientHello.{ClientHello}
+use Rattle.hello.specs.declared.client.ClientRead.{ClientRead}
+use Rattle.hello.specs.declared.client.ClientRead.the-variants as client
+use Rattle.hello.specs.declared.server.ServerHello.{ServerHello}
+use Rattle.hello.specs.declared.server.ServerRead.{ServerRead}
+use Rattle.hello.specs.declared.server.ServerRead.the-variants as server
+
+abbrev pub part : ℕ → ℕ → Part
+part at n = record { at = at; length = n }
+
+-- the place behind a part
+abbrev pub behind : Part → ℕ
+behind p = p .at + p .length
+
+-- the part p of the message m is the list l
+pub record Points (m : List ℕ) (p : Part) (l : List ℕ) : Type 0 where
+  pub within : behind p ≤ length m
+  pub is : take (p .length) (drop (p .at) m) ≡ l
+
+-- how many bytes a list of extensions takes
+unfoldable pub sizeOf : List Extension → ℕ
+sizeOf [] = 0
+sizeOf (e ∷ es) = 4 + length (e .content) + sizeOf es
+
+-- the data of the first extension of type t in a list that begins at place at; at place 0 if there is none
+unfoldable pub partOf : ℕ → ℕ → List Extension → Part
+partOf t at [] = part 0 0
+partOf t at (e ∷ es) = pick (eqb (e .kind) t) (part (at + 4) (length (e .content))) (partOf t (at + 4 + length (e .content)) es)
+
+-- the bytes of an RI, behind its length byte
+unfoldable pub bytesPart : Part → Part
+bytesPart p = pick (eqb (p .length) 0) (part 0 0) (part (p .at + 1) (p .length - 1))
+
+-- what is said of the extensions of a list that begins at place at
+unfoldable pub extensionsAt : Bool → ℕ → List Extension → Extensions
+extensionsAt block at es =
+    record {
+      block = bit block;
+      list = part at (sizeOf es);
+      indicated = bit (has riKind es);
+      indication = bytesPart (partOf riKind at es);
+      ems = bit (has emsKind es);
+      others = bit (othersOf es);
+    }
+
+-- the list stands behind the 2-byte length of the block, if there is a block
+abbrev pub listPlace : Bool → ℕ → ℕ
+listPlace block at = pick block (at + 2) at
+
+-- a hello's identifier stands behind the header, 4 bytes, version, random and its own length
+abbrev pub identifierPart : Hello → Part
+identifierPart f = part 39 (length (f .identifier))
+
+abbrev pub suitesPart : Hello → Part
+suitesPart f = part (behind (identifierPart f) + 2) (length (f .suites))
+
+abbrev pub methodsPart : Hello → Part
+methodsPart f = part (behind (suitesPart f) + 1) (length (f .methods))
+
+unfoldable pub clientPlaces : Hello → ClientHello
+clientPlaces f =
+    record {
+      version = f .version;
+      random = part 6 32;
+      identifier = identifierPart f;
+      suites = suitesPart f;
+      methods = methodsPart f;
+      signal = bit (signalIn (f .suites));
+      extensions = extensionsAt (f .block) (listPlace (f .block) (behind (methodsPart f))) (f .extensions);
+    }
+
+-- behind the identifier of a ServerHello stand a suite and a method, 3 bytes
+unfoldable pub serverPlaces : Hello → ServerHello
+serverPlaces f =
+    record {
+      version = f .version;
+      random = part 6 32;
+      identifier = identifierPart f;
+      suite = big (f .suites);
+      compression = big (f .methods);
+      extensions = extensionsAt (f .block) (listPlace (f .block) (behind (identifierPart f) + 3)) (f .extensions);
+    }
+
+unfoldable pub clientAnswer : Reading → ClientRead
+clientAnswer (fields f) = client.Read (clientPlaces f)
+clientAnswer (fault n) = client.Refused (refusalOf n)
+
+unfoldable pub serverAnswer : Reading → ServerRead
+serverAnswer (fields f) = server.Read (serverPlaces f)
+serverAnswer (fault n) = server.Refused (refusalOf n)
+
+-- the refusal of an answer, number 0 where there is none
+unfoldable pub clientRefusal : ClientRead → Refusal
+clientRefusal (client.Read h) = refusalOf 0
+clientRefusal (client.Refused r) = r
+
+unfoldable pub serverRefusal : ServerRead → Refusal
+serverRefusal (server.Read h) = refusalOf 0
+serverRefusal (server.Refused r) = r

@@ -1,0 +1,122 @@
+// Walks over a list of extensions, which ends where the message ends. Each extension is a type and a length of two bytes each, and so
+// many bytes.
+use crate::parts::Part;
+use message::byte;
+use message::pair;
+ghost use mathlib.Core.Path.{_≡_};
+ghost use mathlib.Core.Bool.{true};
+ghost use Prim.Native.Nat.{_+_, _≤_};
+ghost use lib.ListN.{length, take, drop};
+ghost use Rattle.hello.specs.Extensions.{shaped, knownKind, twice, othersOf};
+ghost use Rattle.hello.specs.Cuts.{wellFormedAt, listAt};
+ghost use Rattle.hello.specs.Places.{partOf};
+
+// extended_master_secret, 00 17
+pub(crate) const EMS: usize = 23;
+
+// renegotiation_info, ff 01
+pub(crate) const RI: usize = 65281;
+
+// The two known types have their own shape; the data of any other is not read.
+fn well_shaped(message: &[u8], kind: usize, at: usize, length: usize) -> bool
+    requires { ⌜ at + length ≤ lib.ListN.length (now message) ⌝ }
+    ensures { λ r. ⌜ r ≡ shaped kind (take length (drop at (now (message .entry)))) ⌝ }
+{
+    if kind == EMS {
+        return length == 0;
+    }
+    if kind == RI {
+        return length == 1 + byte(message, at);
+    }
+    true
+}
+
+pub(crate) fn well_formed(message: &[u8], at: usize) -> bool
+    requires { ⌜ at ≤ length (now message) ⌝ }
+    ensures { λ r. ⌜ r ≡ wellFormedAt (now (message .entry)) at ⌝ }
+{
+    let mut i = at;
+    while i < message.len() {
+        if message.len() - i < 4 {
+            return false;
+        }
+        let n = pair(message, i + 2);
+        if message.len() - i - 4 < n {
+            return false;
+        }
+        if !well_shaped(message, pair(message, i), i + 4, n) {
+            return false;
+        }
+        i = i + 4 + n;
+    }
+    true
+}
+
+// Every pair of types is compared, up to the first repeat.
+pub(crate) fn repeated(message: &[u8], at: usize) -> bool
+    requires { ⌜ at ≤ length (now message) ⌝ }
+    requires { ⌜ wellFormedAt (now message) at ≡ true ⌝ }
+    ensures { λ r. ⌜ r ≡ twice (listAt (now (message .entry)) at) ⌝ }
+{
+    let mut found = false;
+    let mut i = at;
+    'all: while i < message.len() {
+        let kind = pair(message, i);
+        i = i + 4 + pair(message, i + 2);
+        let mut j = i;
+        while j < message.len() {
+            if pair(message, j) == kind {
+                found = true;
+                break 'all;
+            }
+            j = j + 4 + pair(message, j + 2);
+        }
+    }
+    found
+}
+
+// The data of the first extension of a type; at place 0, where no data stands, if there is none.
+pub(crate) fn find(message: &[u8], at: usize, kind: usize) -> Part
+    requires { ⌜ at ≤ length (now message) ⌝ }
+    requires { ⌜ wellFormedAt (now message) at ≡ true ⌝ }
+    ensures { λ r. ⌜ (r ≡ partOf kind at (listAt (now (message .entry)) at)) × (r .at + r .length ≤ length (now (message .entry))) ⌝ }
+{
+    let mut i = at;
+    while i < message.len() {
+        let n = pair(message, i + 2);
+        if pair(message, i) == kind {
+            return Part {
+                at: i + 4,
+                length: n,
+            };
+        }
+        i = i + 4 + n;
+    }
+    Part { at: 0, length: 0 }
+}
+
+fn known(kind: usize) -> bool
+    ensures { λ r. ⌜ r ≡ knownKind kind ⌝ }
+{
+    if kind == EMS {
+        return true;
+    }
+    kind == RI
+}
+
+// A type other than the two that are known here.
+pub(crate) fn others(message: &[u8], at: usize) -> bool
+    requires { ⌜ at ≤ length (now message) ⌝ }
+    requires { ⌜ wellFormedAt (now message) at ≡ true ⌝ }
+    ensures { λ r. ⌜ r ≡ othersOf (listAt (now (message .entry)) at) ⌝ }
+{
+    let mut i = at;
+    while i < message.len() {
+        let kind = pair(message, i);
+        if !known(kind) {
+            return true;
+        }
+        i = i + 4 + pair(message, i + 2);
+    }
+    false
+}

@@ -1,0 +1,51 @@
+-- The check of a Finished, and what is expected of it (document 01, 'The message log'; RFC 5246, section 7.4.9).
+-- Assumes nothing.
+use mathlib.Core.Bool.{not, _&&_}
+use mathlib.Core.List.{List, [], _∷_}
+use Prim.Native.Nat.{ℕ}
+use lib.Dec.{eqb}
+use lib.ListN.{length, replicate}
+use Rattle.seqs.specs.Pick.{pick}
+use Rattle.refusal.specs.First.{firstOf}
+use Rattle.refusal.specs.Table.{refusalOf}
+use Rattle.octets.specs.Same.{same}
+use Rattle.message.specs.Frame.{kindOf, bodyOf, overlong, misstated}
+use Rattle.sha256.specs.Sha256.{sha256}
+use Rattle.prf.specs.Hash.{SHA256}
+use Rattle.prf.specs.Secrets.{verifyData}
+use Rattle.log.specs.Order.{finishedDue, fromServer}
+use Rattle.log.specs.History.{History, placeOf, hashed}
+use Rattle.log.specs.History.History.{checked}
+use Rattle.log.specs.Calls.{misshapen}
+use Rattle.log.specs.declared.answers.Expected.{Expected}
+
+-- 'expected is PRF(secret, "client finished" or "server finished", hash of the log so far), first 12 bytes'
+unfoldable pub expectedValue : History → List ℕ → List ℕ
+expectedValue h secret = verifyData SHA256 secret (fromServer (placeOf h)) (sha256 (hashed h))
+
+-- 'a third call gives them, with the same 10 and 7'
+unfoldable pub expectedNumber : History → List ℕ → ℕ
+expectedNumber h secret =
+    firstOf ((10, not (eqb (length secret) 48)) ∷ (7, not (finishedDue (placeOf h))) ∷ [])
+
+unfoldable pub expectedOf : History → List ℕ → Expected
+expectedOf h secret =
+    record {
+      refusal = refusalOf (expectedNumber h secret);
+      value = pick (eqb (expectedNumber h secret) 0) (expectedValue h secret) (replicate 12 0);
+    }
+
+-- 'The check needs a 48-byte secret (else 10) and a message of type 20 that is due (else 7)'; 8: Finished value differs
+unfoldable pub checkNumber : History → List ℕ → List ℕ → ℕ
+checkNumber h secret m =
+    firstOf
+    ((10, not (eqb (length secret) 48))
+    ∷ (10, overlong m)
+    ∷ (1, misstated m)
+    ∷ (1, misshapen m)
+    ∷ (7, not (eqb (kindOf m) 20 && finishedDue (placeOf h)))
+    ∷ (8, not (same (bodyOf m) (expectedValue h secret)))
+    ∷ [])
+
+unfoldable pub afterCheck : History → List ℕ → List ℕ → History
+afterCheck h secret m = pick (eqb (checkNumber h secret m) 0) (checked h m) h

@@ -1,0 +1,5 @@
+pub mod Masks
+pub mod Numbers
+pub mod Answers
+pub mod Chains
+pub mod Fronts

@@ -1,0 +1,7 @@
+pub mod Hash
+pub mod Hmac
+pub mod Prf
+pub mod Secrets
+pub mod Keyed
+pub mod Promise
+pub mod Laws

@@ -1,0 +1,123 @@
+// HMAC: a key is taken once, into the two hashes that every message under it begins with.
+ghost use mathlib.Core.Path.{_≡_};
+ghost use mathlib.Core.List.{List, _++_};
+ghost use Prim.Native.Nat.{ℕ, _-_, _≤_};
+ghost use lib.ListN.{length, replicate};
+ghost use Rattle.sha256.specs.Running.{Running};
+ghost use Rattle.prf.specs.Hash.{SHA256};
+ghost use Rattle.prf.specs.Hmac.{keyBlock, mask, innerKey, hmac};
+ghost use Rattle.prf.specs.Keyed.{KeyedBy};
+ghost use Rattle.prf.specs.Promise.{taggedOf};
+use refusal::Refusal;
+use sha256::Hash;
+
+#[repr(C)]
+pub struct Tagged {
+    pub refusal: Refusal,
+    pub tag: [u8; 32],
+}
+
+// The hashes after the two blocks of a key.
+pub(crate) struct Keyed {
+    pub(crate) inner: Hash,
+    pub(crate) outer: Hash,
+}
+
+// The most bytes of a key, and of a message.
+const MOST: usize = 65536;
+
+// k with zeros after it, to a block.
+fn padded(k: &[u8]) -> [u8; 64]
+    requires { ⌜ length (now k) ≤ 64 ⌝ }
+    ensures { λ r. ⌜ r ≡ now (k .entry) ++ replicate (64 - length (now (k .entry))) 0 ⌝ }
+{
+    let mut b = [0u8; 64];
+    let mut i = 0;
+    while i < k.len() {
+        b[i] = k[i];
+        i += 1;
+    }
+    b
+}
+
+// The key, or the digest of a key that is longer than a block.
+fn key_block(key: &[u8]) -> [u8; 64]
+    requires { ⌜ length (now key) ≤ 65536 ⌝ }
+    ensures { λ r. ⌜ r ≡ keyBlock SHA256 (now (key .entry)) ⌝ }
+{
+    if 64 < key.len() {
+        let hashed = sha256::sha256(key);
+        let digest = hashed.digest;
+        return padded(&digest);
+    }
+    padded(key)
+}
+
+fn masked(b: [u8; 64], x: u8) -> [u8; 64]
+    ensures { λ r. ⌜ r ≡ mask x b ⌝ }
+{
+    let mut r = [0u8; 64];
+    let mut i = 0;
+    while i < 64 {
+        r[i] = b[i] ^ x;
+        i += 1;
+    }
+    r
+}
+
+// A hash that has taken b.
+fn begun(b: [u8; 64]) -> Hash
+    ensures { λ r. ⌜ Running r b ⌝ }
+{
+    let taken = Hash::fresh().absorb(&b);
+    taken.hash
+}
+
+impl Keyed {
+    pub(crate) fn by(key: &[u8]) -> Keyed
+        requires { ⌜ length (now key) ≤ 65536 ⌝ }
+        ensures { λ r. ⌜ KeyedBy r (now (key .entry)) ⌝ }
+    {
+        let block = key_block(key);
+        let inner = begun(masked(block, 0x36));
+        let outer = begun(masked(block, 0x5c));
+        Keyed { inner, outer }
+    }
+
+    // The tag of the text that a hash has taken after the inner block.
+    pub(crate) fn tag(self, text: Hash) -> [u8; 32]
+        ensures { λ r. ⌜ ((k m : List ℕ) → KeyedBy self k → Running text (innerKey SHA256 k ++ m) → r ≡ hmac SHA256 k m) ⌝ }
+    {
+        let digest = text.digest();
+        let outer = self.outer;
+        let taken = outer.absorb(&digest);
+        let whole = taken.hash;
+        whole.digest()
+    }
+}
+
+pub fn hmac(key: &[u8], message: &[u8]) -> Tagged
+    ensures { λ r. ⌜ r ≡ taggedOf (now (key .entry)) (now (message .entry)) ⌝ }
+{
+    if MOST < key.len() {
+        let refusal = refusal::refuse(10);
+        return Tagged {
+            refusal,
+            tag: [0; 32],
+        };
+    }
+    if MOST < message.len() {
+        let refusal = refusal::refuse(10);
+        return Tagged {
+            refusal,
+            tag: [0; 32],
+        };
+    }
+    let keyed = Keyed::by(key);
+    let inner = keyed.inner;
+    let taken = inner.absorb(message);
+    let text = taken.hash;
+    let tag = keyed.tag(text);
+    let refusal = refusal::refuse(0);
+    Tagged { refusal, tag }
+}

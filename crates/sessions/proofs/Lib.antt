@@ -1,0 +1,11 @@
+pub mod Rows
+pub mod Names
+pub mod Struck
+pub mod Sound
+pub mod Track
+pub mod Demand3
+pub mod Places
+pub mod Fields
+pub mod Eviction
+pub mod Numbers
+pub mod Kept

@@ -1,0 +1,16 @@
+-- No row counts.
+-- Assumes nothing.
+use mathlib.Core.Path.{refl}
+use Rattle.sessions.proofs.Places.{book-none}
+use borrow.Author.Needs.{needs}
+use Rattle.sessions.proofs.table.Table.blank.Statement.{statement}
+use Rattle.sessions.proofs.table.Table.blank.Tie as tie
+
+blank-requires : tie.Need-blank-requires
+blank-requires c κs = search needs
+
+returns : tie.Need-returns
+returns c = book-none _ refl
+
+pub blank-spec : {M : Type 1} → statement M
+blank-spec = tie.close (tie.spec blank-requires returns)

@@ -1,0 +1,229 @@
+// The calls on the table. A refusal leaves the table and what is lent as they were.
+use crate::row::Row;
+use crate::table::Table;
+use refusal::Refusal;
+use refusal::refuse;
+ghost use mathlib.Core.Path.{_≡_};
+ghost use Rattle.seqs.specs.Flag.{yes, bit};
+ghost use Rattle.sessions.specs.Book.{badAxle, badName, storeNumber};
+ghost use Rattle.sessions.specs.Promises.{Starts, Stores, LooksUp, Withdraws, CountsHeld, Clears, Knows};
+
+#[repr(C)]
+pub struct Stored {
+    pub refusal: Refusal,
+    pub table: Table,
+}
+
+// The secret found is in the lent output.
+#[repr(C)]
+pub struct Looked {
+    pub refusal: Refusal,
+    pub found: u8,
+    pub ems: u8,
+}
+
+#[repr(C)]
+pub struct Withdrawn {
+    pub refusal: Refusal,
+    pub withdrawn: u8,
+    pub table: Table,
+}
+
+#[repr(C)]
+pub struct Held {
+    pub refusal: Refusal,
+    pub count: u8,
+}
+
+#[repr(C)]
+pub struct Cleared {
+    pub refusal: Refusal,
+    pub table: Table,
+}
+
+// What is known of a session without its secret.
+pub enum Known {
+    Nothing,
+    WithoutEms,
+    WithEms,
+}
+
+fn bad_axle(axle: u8) -> bool
+    ensures { λ r. ⌜ r ≡ badAxle axle ⌝ }
+{
+    if axle < 1 {
+        return true;
+    }
+    if 6 < axle {
+        return true;
+    }
+    false
+}
+
+fn bad_name(axle: u8, identifier: &[u8]) -> bool
+    ensures { λ r. ⌜ r ≡ badName axle (now (identifier .entry)) ⌝ }
+{
+    if bad_axle(axle) {
+        return true;
+    }
+    if identifier.len() < 1 {
+        return true;
+    }
+    if 32 < identifier.len() {
+        return true;
+    }
+    false
+}
+
+fn store_number(axle: u8, identifier: &[u8], secret: &[u8]) -> u8
+    ensures { λ r. ⌜ r ≡ storeNumber axle (now (identifier .entry)) (now (secret .entry)) ⌝ }
+{
+    if bad_name(axle, identifier) {
+        return 11;
+    }
+    if secret.len() != 48 {
+        return 10;
+    }
+    0
+}
+
+// A flag as we write it.
+fn flag(x: u8) -> u8
+    ensures { λ r. ⌜ r ≡ bit (yes x) ⌝ }
+{
+    if x == 0 { 0 } else { 1 }
+}
+
+impl Table {
+    // An empty table.
+    pub fn fresh() -> Table
+        ensures { λ r. ⌜ Starts r ⌝ }
+    {
+        Table::blank()
+    }
+
+    pub fn store(self, axle: u8, identifier: &[u8], ems: bool, secret: &[u8]) -> Stored
+        ensures { λ r. ⌜ Stores self axle (now (identifier .entry)) ems (now (secret .entry)) r ⌝ }
+    {
+        let number = store_number(axle, identifier, secret);
+        let refusal = refuse(number);
+        if number != 0 {
+            return Stored {
+                refusal,
+                table: self,
+            };
+        }
+        let row = Row::of(axle, identifier, ems, secret);
+        let at = self.victim(axle, identifier);
+        let table = self.renewed(at, row);
+        Stored { refusal, table }
+    }
+
+    // Writes the secret of the session found to the front of out, and nothing else.
+    pub fn look_up(self, axle: u8, identifier: &[u8], out: &mut [u8]) -> Looked
+        ensures { λ r. ⌜ LooksUp self axle (now (identifier .entry)) (now (out .entry)) r (now (out .exit)) ⌝ }
+    {
+        if bad_name(axle, identifier) {
+            return Looked {
+                refusal: refuse(11),
+                found: 0,
+                ems: 0,
+            };
+        }
+        let at = self.find(axle, identifier);
+        let size = self.size();
+        if size <= at {
+            return Looked {
+                refusal: refuse(0),
+                found: 0,
+                ems: 0,
+            };
+        }
+        let row = self.rows[at];
+        let number = octets::put(out, &row.secret);
+        let refusal = refuse(number);
+        if number != 0 {
+            return Looked {
+                refusal,
+                found: 0,
+                ems: 0,
+            };
+        }
+        let ems = flag(row.ems);
+        Looked {
+            refusal,
+            found: 1,
+            ems,
+        }
+    }
+
+    pub fn withdraw(self, axle: u8, identifier: &[u8]) -> Withdrawn
+        ensures { λ r. ⌜ Withdraws self axle (now (identifier .entry)) r ⌝ }
+    {
+        if bad_name(axle, identifier) {
+            return Withdrawn {
+                refusal: refuse(11),
+                withdrawn: 0,
+                table: self,
+            };
+        }
+        let at = self.find(axle, identifier);
+        let size = self.size();
+        let refusal = refuse(0);
+        if size <= at {
+            return Withdrawn {
+                refusal,
+                withdrawn: 0,
+                table: self,
+            };
+        }
+        let table = self.without(at);
+        Withdrawn {
+            refusal,
+            withdrawn: 1,
+            table,
+        }
+    }
+
+    pub fn held(self, axle: u8) -> Held
+        ensures { λ r. ⌜ CountsHeld self axle r ⌝ }
+    {
+        if bad_axle(axle) {
+            return Held {
+                refusal: refuse(11),
+                count: 0,
+            };
+        }
+        let count = self.count(axle) as u8;
+        Held {
+            refusal: refuse(0),
+            count,
+        }
+    }
+
+    pub fn clear(self) -> Cleared
+        ensures { λ r. ⌜ Clears self r ⌝ }
+    {
+        Cleared {
+            refusal: refuse(0),
+            table: Table::blank(),
+        }
+    }
+
+    // Is there a session of that axle and identifier, and with EMS? No secret is touched.
+    pub fn known(self, axle: u8, identifier: &[u8]) -> Known
+        ensures { λ r. ⌜ Knows self axle (now (identifier .entry)) r ⌝ }
+    {
+        let at = self.find(axle, identifier);
+        let size = self.size();
+        if size <= at {
+            return Known::Nothing;
+        }
+        let row = self.rows[at];
+        let ems = row.ems;
+        if ems == 0 {
+            return Known::WithoutEms;
+        }
+        Known::WithEms
+    }
+}

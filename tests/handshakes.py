@@ -1,0 +1,139 @@
+"""Real TLS 1.2 handshakes, made by OpenSSL in this process over memory buffers.
+
+The suite is TLS_RSA_WITH_NULL_SHA256, so that the Finished messages stand in clear text on the wire, and the RSA key is
+the test's own, so that the pre-master secret can be taken out of the ClientKeyExchange.
+"""
+
+import base64
+import pathlib
+import ssl
+import tempfile
+from dataclasses import dataclass
+
+DATA = pathlib.Path(__file__).resolve().parent / "data"
+CERTIFICATE, KEY = str(DATA / "test-only.crt"), str(DATA / "test-only.key")
+NO_EXTENDED_MASTER_SECRET = 1  # OpenSSL's SSL_OP_NO_EXTENDED_MASTER_SECRET
+MAC = 32  # bytes of HMAC-SHA256 behind each record once the cipher is on
+
+
+@dataclass
+class Handshake:
+    messages: list  # (from the client?, message with its header), in order
+    master_secret: bytes  # as OpenSSL wrote it down
+    pre_master: bytes  # None in a resumed one
+    resumed: bool
+    ems: bool
+
+
+def _contexts(client_certificate, ems, keylog):
+    server = ssl.SSLContext(ssl.PROTOCOL_TLS_SERVER)
+    client = ssl.SSLContext(ssl.PROTOCOL_TLS_CLIENT)
+    client.check_hostname = False
+    client.verify_mode = ssl.CERT_NONE
+    server.load_cert_chain(CERTIFICATE, KEY)
+    for context in (server, client):
+        context.minimum_version = context.maximum_version = ssl.TLSVersion.TLSv1_2
+        context.set_ciphers("NULL-SHA256:@SECLEVEL=0")
+        context.options |= ssl.OP_NO_TICKET
+        if not ems:
+            context.options |= NO_EXTENDED_MASTER_SECRET
+    if client_certificate:
+        client.load_cert_chain(CERTIFICATE, KEY)
+        server.load_verify_locations(CERTIFICATE)
+        server.verify_mode = ssl.CERT_REQUIRED
+    client.keylog_filename = keylog
+    return client, server
+
+
+class _Side:
+    """Collects the handshake messages of what one side sends."""
+
+    def __init__(self):
+        self.pending, self.stream, self.protected, self.out = b"", b"", False, []
+
+    def feed(self, data):
+        self.pending += data
+        while len(self.pending) >= 5:
+            kind, n = self.pending[0], int.from_bytes(self.pending[3:5], "big")
+            if len(self.pending) < 5 + n:
+                return
+            body, self.pending = self.pending[5 : 5 + n], self.pending[5 + n :]
+            if kind == 20:
+                self.protected = True
+            elif kind == 22:
+                self.stream += body[:-MAC] if self.protected else body
+            while len(self.stream) >= 4 and len(self.stream) >= 4 + int.from_bytes(self.stream[1:4], "big"):
+                m = 4 + int.from_bytes(self.stream[1:4], "big")
+                self.out.append(self.stream[:m])
+                self.stream = self.stream[m:]
+
+
+def _run(client, server, session=None):
+    c_in, c_out, s_in, s_out = (ssl.MemoryBIO() for _ in range(4))
+    c = client.wrap_bio(c_in, c_out, session=session)
+    s = server.wrap_bio(s_in, s_out, server_side=True)
+    sides = {True: _Side(), False: _Side()}
+    messages, open_ = [], [c, s]
+    while open_:
+        for end in list(open_):
+            try:
+                end.do_handshake()
+                open_.remove(end)
+            except ssl.SSLWantReadError:
+                pass
+            for from_client, out, inn in ((True, c_out, s_in), (False, s_out, c_in)):
+                data = out.read()
+                if data:
+                    inn.write(data)
+                    sides[from_client].feed(data)
+                    messages += [(from_client, m) for m in sides[from_client].out]
+                    sides[from_client].out = []
+    return c, s, messages
+
+
+def _der_numbers(der):
+    """The INTEGERs of a flat DER SEQUENCE."""
+
+    def item(d):
+        n, head = d[1], 2
+        if n & 0x80:
+            k = n & 0x7F
+            n, head = int.from_bytes(d[2 : 2 + k], "big"), 2 + k
+        return d[0], d[head : head + n], d[head + n :]
+
+    _, body, _ = item(der)
+    found = []
+    while body:
+        tag, value, body = item(body)
+        if tag == 2:
+            found.append(int.from_bytes(value, "big"))
+        elif tag == 4:
+            found += _der_numbers(value)  # PKCS #8 wraps the RSA key in an OCTET STRING
+    return found
+
+
+def _pre_master(client_key_exchange):
+    """RFC 5246, section 7.4.7.1: the 48 bytes that the client encrypted under the server's RSA key."""
+    pem = "".join(line for line in open(KEY) if "-----" not in line)
+    numbers = _der_numbers(base64.b64decode(pem))
+    modulus, private = numbers[2], numbers[4]  # after PKCS #8's and PKCS #1's versions
+    sealed = int.from_bytes(client_key_exchange[6:], "big")
+    return pow(sealed, private, modulus).to_bytes(256, "big")[-48:]
+
+
+def _handshake(messages, keylog, at, resumed, ems):
+    lines = [line.split() for line in open(keylog) if line.startswith("CLIENT_RANDOM")]
+    master = bytes.fromhex(lines[at][2])
+    exchange = [m for _, m in messages if m[0] == 16]
+    return Handshake(messages, master, _pre_master(exchange[0]) if exchange else None, resumed, ems)
+
+
+def full_and_resumed(client_certificate=False, ems=True):
+    """A full handshake and one that resumes its session."""
+    with tempfile.NamedTemporaryFile() as keylog:
+        client, server = _contexts(client_certificate, ems, keylog.name)
+        c, _kept, messages = _run(client, server)  # OpenSSL forgets the session of a server end that is freed
+        first = _handshake(messages, keylog.name, 0, False, ems)
+        again, _, messages = _run(client, server, c.session)
+        assert again.session_reused
+        return first, _handshake(messages, keylog.name, 1, True, ems)
