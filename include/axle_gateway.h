@@ -219,6 +219,58 @@ AxleHeld axle_table_held(AxleTable table, uint8_t axle);
 /* Empties the table. */
 AxleCleared axle_table_clear(AxleTable table);
 
+/* ---- The message log -------------------------------------------------------------------------------------------- */
+
+/* The transcript of one handshake: whose turn it is, and its running hash. */
+typedef struct {
+    AxleHash hash;
+    uint8_t place;
+    uint8_t session[32];
+    uint8_t checked;
+    uint8_t value[12];
+    uint8_t client[12];
+    uint8_t server[12];
+} AxleLog;
+
+typedef struct {
+    AxleRefusal refusal; /* 0, 1, 7 or 10 */
+    AxleLog log;         /* the next state; refused: the one passed */
+} AxleAccepted;
+
+typedef struct {
+    AxleRefusal refusal; /* 0, 1, 7, 8 or 10 */
+    AxleLog log;         /* the next state; refused: the one passed */
+} AxleChecked;
+
+typedef struct {
+    AxleRefusal refusal; /* 0 or 7 */
+    uint8_t hash[32];    /* refused: zeros */
+} AxleSessionHash;
+
+typedef struct {
+    AxleRefusal refusal; /* 0, 7 or 10 */
+    uint8_t value[12];   /* verify_data; refused: zeros */
+} AxleExpected;
+
+/* A log that has accepted nothing. */
+AxleLog axle_log_fresh(void);
+
+/* Accepts the next handshake message, header included, or refuses it: 10 over 16,388 bytes, 1 malformed, 7 out of turn.
+ * `resumes` tells, with a ServerHello, whether it resumes; with other messages it is of no account. A Finished is accepted
+ * only where its bytes were the last ones that axle_log_check_finished found equal. */
+AxleAccepted axle_log_accept(AxleLog log, const uint8_t *message, size_t length, uint8_t resumes);
+
+/* The session hash of RFC 7627: over ClientHello through ClientKeyExchange. 7 before that, and in a resumed handshake. */
+AxleSessionHash axle_log_session_hash(AxleLog log);
+
+/* Is `message` the Finished that is due under this 48-byte master secret? 10, 1, 7, or 8 where its value differs. Done, the
+ * log remembers it, until its next accepted message. The values are compared without an early exit. */
+AxleChecked axle_log_check_finished(AxleLog log, const uint8_t *secret, size_t secret_length, const uint8_t *message,
+                                    size_t message_length);
+
+/* verify_data of the Finished that is due. 10 for a secret not of 48 bytes, 7 where none is due. */
+AxleExpected axle_log_expected_finished(AxleLog log, const uint8_t *secret, size_t secret_length);
+
 #ifdef __cplusplus
 }
 #endif

@@ -184,3 +184,42 @@ class Tagged(c.Structure):
 hmac = declare("axle_hmac", Tagged, BYTES, BYTES)
 extended_master_secret = declare("axle_extended_master_secret", Refusal, BYTES, BYTES, LENT)
 master_secret = declare("axle_master_secret", Refusal, BYTES, BYTES, LENT)
+
+
+# The message log
+
+
+class Log(c.Structure):
+    _fields_ = [
+        ("hash", Hash),
+        ("place", u8),
+        ("session", u8 * 32),
+        ("checked", u8),
+        ("value", u8 * 12),
+        ("client", u8 * 12),
+        ("server", u8 * 12),
+    ]
+
+
+class Accepted(c.Structure):
+    _fields_ = [("refusal", Refusal), ("log", Log)]
+
+
+class Checked(c.Structure):
+    _fields_ = [("refusal", Refusal), ("log", Log)]
+
+
+class SessionHash(c.Structure):
+    _fields_ = [("refusal", Refusal), ("hash", u8 * 32)]
+
+
+class Expected(c.Structure):
+    _fields_ = [("refusal", Refusal), ("value", u8 * 12)]
+
+
+sizeof_log = c.sizeof(Log)
+log_fresh = declare("axle_log_fresh", Log)
+log_accept = declare("axle_log_accept", Accepted, Log, BYTES, u8)
+log_session_hash = declare("axle_log_session_hash", SessionHash, Log)
+log_check_finished = declare("axle_log_check_finished", Checked, Log, BYTES, BYTES)
+log_expected_finished = declare("axle_log_expected_finished", Expected, Log, BYTES)

@@ -76,18 +76,21 @@ def soak(seconds, seed):
     while time.monotonic() < end:
         name = r.choice(names)
         f, kinds = face.CALLS[name]
-        passed, lent = [], []
+        passed, lent, records = [], [], []
         for kind in kinds:
             if isinstance(kind, tuple):
                 page = pages[len(lent)]
                 data = some_bytes(r)
-                passed += [c.c_void_p(page.lay(data, r.random() < 0.5)), len(data)]
+                place = page.lay(data, r.random() < 0.5)
+                passed += [c.c_void_p(place if data or r.random() < 0.5 else None), len(data)]  # no bytes: any pointer, NULL too
                 lent.append((page, kind is face.LENT, data))
             elif issubclass(kind, c.Structure):
                 fresh = kind.from_buffer_copy(r.randbytes(c.sizeof(kind)))
                 passed.append(r.choice(kept[kind]) if kind in kept and r.random() < 0.7 else fresh)
             elif issubclass(kind, c._Pointer):
-                passed.append(c.byref(kind._type_.from_buffer_copy(r.randbytes(c.sizeof(kind._type_)))))
+                record = kind._type_.from_buffer_copy(r.randbytes(c.sizeof(kind._type_)))
+                records.append((record, bytes(record)))
+                passed.append(c.byref(record))
             else:
                 passed.append(r.choice((0, 1, 2, 3, 6, 7, r.randrange(256))))
         argtypes, f.argtypes = f.argtypes, None
@@ -98,9 +101,16 @@ def soak(seconds, seed):
         refusal = getattr(answer, "refusal", answer if isinstance(answer, face.Refusal) else None)
         if refusal is not None and name != "axle_refusal":
             assert refusal.number in TABLE_NUMBERS, (name, refusal.number)
+        refused = refusal is not None and refusal.number and name != "axle_refusal"
+        if refused:  # the state is the one that was passed, and a lent record is as it was
+            for state in (s for s in passed if isinstance(s, c.Structure)):
+                for field, kind in getattr(answer, "_fields_", ()):
+                    if kind is type(state):
+                        assert face.plain(getattr(answer, field)) == face.plain(state), name
+            assert all(bytes(record) == before for record, before in records), name
         for page, written, data in lent:
             assert page.around_untouched(), name
-            if not written or (refusal is not None and refusal.number):
+            if not written or refused:
                 assert page.now() == data, name
         for field, kind in getattr(answer, "_fields_", ()):
             if isinstance(getattr(answer, field), c.Structure) and kind is not face.Refusal:

@@ -88,7 +88,7 @@ def test_cases_of_document_01():
     assert p.all_held() == [6, 7, 7, 7, 4, 1]
 
 
-def test_the_incident_of_the_tender():
+def test_one_axle_restarts_without_end():
     """Axle four restarts without end; the latest sessions of the other five are all found."""
     fresh, p, latest = identifiers(), Pair(), {}
     for _ in range(4):
@@ -161,6 +161,7 @@ def test_100_000_random_calls():
             else:
                 kind = "clear", p.clear()
             kinds[kind] = kinds.get(kind, 0) + 1
+    assert {("store", n) for n in (0, 10, 11)} <= set(kinds) and {("look-up", True), ("withdraw", True), ("clear", None)} <= set(kinds)
     return f"{calls} calls"
 
 

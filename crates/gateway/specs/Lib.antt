@@ -1,1 +1,3 @@
 pub mod Hellos
+pub mod Completion
+pub mod Cases

@@ -15,12 +15,12 @@ use Rattle.seqs.specs.Cases.{by-test}
 use Rattle.message.specs.Numbers.{byteAt, pairAt}
 use Rattle.hello.specs.Layout.{Parse, malformed, holds, big}
 use Rattle.hello.specs.Extensions.{Extension, riKind, shaped, has, contentOf, indicationOf}
-use Rattle.message.specs.Frame.{bodyOf, overlong, misstated}
+use Rattle.message.specs.Frame.{kindOf, bodyOf, overlong, misstated}
 use Rattle.refusal.specs.First.{firstOf}
 use Rattle.refusal.specs.Table.{refusalOf}
 use Rattle.refusal.specs.declared.Refusal.{Refusal}
-use Rattle.hello.specs.Fields.{Hello, Reading, fields, fault, helloNumber, readingOf, clientLayout, serverLayout, clientVersion, serverVersion, readClient, readServer}
-use Rattle.hello.specs.Places.{part, Points, partOf, bytesPart, listPlace, extensionsAt, clientPlaces, serverPlaces, clientAnswer, serverAnswer}
+use Rattle.hello.specs.Fields.{Hello, Reading, fields, fault, isMalformed, helloNumber, readingOf, clientLayout, serverLayout, clientVersion, serverVersion, readClient, readServer}
+use Rattle.hello.specs.Places.{part, behind, Points, partOf, bytesPart, listPlace, extensionsAt, clientPlaces, serverPlaces, clientAnswer, serverAnswer}
 use Rattle.hello.specs.Cuts.{wellFormedAt, listAt}
 use Rattle.hello.specs.declared.parts.Part.{Part}
 use Rattle.hello.specs.declared.client.ClientHello.{ClientHello}
@@ -131,6 +131,22 @@ ri-points m i bytes h w e =
     let x : _≡_ {A = Option (List ℕ)} none (some bytes) = rw (content-none riKind (listAt m i) q) at e in
     let z : _≡_ {A = ℕ} 0 1 = cc in absurd (omega arith))
 
+-- where there is no RI, an empty part at place 0 stands for it
+nowhere : (t at : ℕ) (es : List Extension) → has t es ≡ false → partOf t at es ≡ part 0 0
+unfolding has partOf
+nowhere t at [] h = refl
+nowhere t at (e ∷ es) h =
+    by-test (eqb (e .kind) t)
+    (λ p. never (rw p) h)
+    (λ p. rw p (nowhere t (at + 4 + length (e .content)) es (rw p at h)))
+
+ri-bounded : (m : List ℕ) (i : ℕ) → i ≤ length m → wellFormedAt m i ≡ true → behind (bytesPart (partOf riKind i (listAt m i))) ≤ length m
+unfolding bytesPart
+ri-bounded m i h w =
+    by-test (has riKind (listAt m i))
+    (λ q. let r = ri-some (listAt m i) q in ri-points m i (r .0) h w (r .1) .within)
+    (λ q. rw (nowhere riKind i (listAt m i) q) (omega arith))
+
 -- What a caller learns. The hello is the one of the definition.
 pub record ClientLearnt (m : List ℕ) (h : ClientHello) : Type 0 where
   pub hello : Hello
@@ -141,6 +157,7 @@ pub record ClientLearnt (m : List ℕ) (h : ClientHello) : Type 0 where
   pub suites : Points m (h .suites) (hello .suites)
   pub methods : Points m (h .methods) (hello .methods)
   pub indication : (bytes : List ℕ) → indicationOf (hello .extensions) ≡ some bytes → Points m (h .extensions .indication) bytes
+  pub bounded : behind (h .extensions .indication) ≤ length m
   pub short : length (hello .identifier) ≤ 32
 
 pub record ServerLearnt (m : List ℕ) (h : ServerHello) : Type 0 where
@@ -150,6 +167,7 @@ pub record ServerLearnt (m : List ℕ) (h : ServerHello) : Type 0 where
   pub random : Points m (h .random) (hello .random)
   pub identifier : Points m (h .identifier) (hello .identifier)
   pub indication : (bytes : List ℕ) → indicationOf (hello .extensions) ≡ some bytes → Points m (h .extensions .indication) bytes
+  pub bounded : behind (h .extensions .indication) ≤ length m
   pub short : length (hello .identifier) ≤ 32
 
 reading-zero : (n : ℕ) (p : Parse Hello) (f : Hello) → readingOf n p ≡ fields f → (n ≡ 0) × (p ≡ holds f)
@@ -251,6 +269,7 @@ client-fields m h f e q =
       identifier = rw (q, p .is) (points-at m 39 (p .i) (omega (arith, p .whole)));
       suites = rw (q, p .is, l) (points-at m (39 + p .i + 2) (p .s) (omega (arith, p .whole)));
       methods = rw (q, p .is, l, n) (points-at m (39 + p .i + 2 + p .s + 1) (p .t) (p .whole));
+      bounded = rw (q, p .is, l, n, k) (ri-bounded m (listPlace (p .b) (39 + p .i + 2 + p .s + 1 + p .t)) (p .list) (p .formed));
       indication = rw (q, p .is, l, n, k) (λ bytes x. ri-points m (listPlace (p .b) (39 + p .i + 2 + p .s + 1 + p .t)) bytes (p .list) (p .formed) x);
       short = rw (p .is, l) (p .short);
     }
@@ -267,6 +286,7 @@ server-fields m h f e q =
       places = q;
       random = rw (q, p .is) (record { within = omega (arith, p .whole); is = refl });
       identifier = rw (q, p .is) (points-at m 39 (p .i) (omega (arith, p .whole)));
+      bounded = rw (q, p .is, l) (ri-bounded m (listPlace (p .b) (39 + p .i + 3)) (p .list) (p .formed));
       indication = rw (q, p .is, l) (λ bytes x. ri-points m (listPlace (p .b) (39 + p .i + 3)) bytes (p .list) (p .formed) x);
       short = rw (p .is, l) (p .short);
     }
@@ -288,19 +308,48 @@ server-learnt m h e = go (readServer m) refl e
     go (fields f) p q = server-fields m h f p (cc)
     go (fault n) p q = let z : _≡_ {A = ℕ} 0 1 = cc in absurd (omega arith)
 
--- and where it refused: the number is the reading's, and is none of a reading that has fields
-pub client-fault : (m : List ℕ) (r : Refusal) → client.Refused r ≡ clientAnswer (readClient m) → (n : ℕ) × (readClient m ≡ fault n) × (r ≡ refusalOf n)
-unfolding clientAnswer
-client-fault m r e = go (readClient m) refl e
-  where
-    go : (x : Reading) → readClient m ≡ x → client.Refused r ≡ clientAnswer x → (n : ℕ) × (readClient m ≡ fault n) × (r ≡ refusalOf n)
-    go (fields f) p q = let z : _≡_ {A = ℕ} 0 1 = cc in absurd (omega arith)
-    go (fault n) p q = (n, p, cc)
+-- a fault has a number: of what is malformed it is not 0, and of fields 0 is none
+fault-is : (k n : ℕ) (p : Parse Hello) → readingOf k p ≡ fault n → (k ≡ n) × ((n ≡ 0) → isMalformed p ≡ true)
+fault-is k n malformed e = (cc, λ z. refl)
+fault-is zero n (holds f) e = let y : _≡_ {A = ℕ} 0 1 = cc in absurd (omega arith)
+fault-is (suc k) n (holds f) e = let y : suc k ≡ n = cc in (y, λ z. absurd (omega arith))
 
-pub server-fault : (m : List ℕ) (r : Refusal) → server.Refused r ≡ serverAnswer (readServer m) → (n : ℕ) × (readServer m ≡ fault n) × (r ≡ refusalOf n)
-unfolding serverAnswer
-server-fault m r e = go (readServer m) refl e
+fault-number : (kind : ℕ) (layout : List ℕ → Parse Hello) (wrong : ℕ → Bool) (m : List ℕ) (n : ℕ)
+    → readingOf (helloNumber kind layout wrong m) (layout (bodyOf m)) ≡ fault n → n ≡ 0 → ⊥
+unfolding helloNumber firstOf
+fault-number kind layout wrong m n e z =
+    let d = fault-is (helloNumber kind layout wrong m) n (layout (bodyOf m)) e in
+    let b : isMalformed (layout (bodyOf m)) ≡ true = d .1 z in
+    let q : helloNumber kind layout wrong m ≡ 0 = d .0 ∙ z in
+    by-test (overlong m)
+    (λ p. let y : _≡_ {A = ℕ} 10 0 = rw p at q in omega arith)
+    (λ p.
+    by-test (misstated m)
+    (λ r. let y : _≡_ {A = ℕ} 1 0 = rw (p, r) at q in omega arith)
+    (λ r.
+    by-test (eqb (kindOf m) kind)
+    (λ s. let y : _≡_ {A = ℕ} 1 0 = rw (p, r, s, b) at q in omega arith)
+    (λ s. let y : _≡_ {A = ℕ} 1 0 = rw (p, r, s) at q in omega arith)))
+
+-- where it refused, the number is the reading's
+pub record Faulted (r : Reading) (x : Refusal) : Type 0 where
+  pub number : ℕ
+  pub reading : r ≡ fault number
+  pub refusal : x ≡ refusalOf number
+  pub some : number ≡ 0 → ⊥
+
+pub client-fault : (m : List ℕ) (x : Refusal) → client.Refused x ≡ clientAnswer (readClient m) → Faulted (readClient m) x
+unfolding clientAnswer readClient
+client-fault m x e = go (readClient m) refl e
   where
-    go : (x : Reading) → readServer m ≡ x → server.Refused r ≡ serverAnswer x → (n : ℕ) × (readServer m ≡ fault n) × (r ≡ refusalOf n)
+    go : (r : Reading) → readClient m ≡ r → client.Refused x ≡ clientAnswer r → Faulted (readClient m) x
     go (fields f) p q = let z : _≡_ {A = ℕ} 0 1 = cc in absurd (omega arith)
-    go (fault n) p q = (n, p, cc)
+    go (fault n) p q = record { number = n; reading = p; refusal = cc; some = fault-number 1 clientLayout clientVersion m n p }
+
+pub server-fault : (m : List ℕ) (x : Refusal) → server.Refused x ≡ serverAnswer (readServer m) → Faulted (readServer m) x
+unfolding serverAnswer readServer
+server-fault m x e = go (readServer m) refl e
+  where
+    go : (r : Reading) → readServer m ≡ r → server.Refused x ≡ serverAnswer r → Faulted (readServer m) x
+    go (fields f) p q = let z : _≡_ {A = ℕ} 0 1 = cc in absurd (omega arith)
+    go (fault n) p q = record { number = n; reading = p; refusal = cc; some = fault-number 2 serverLayout serverVersion m n p }

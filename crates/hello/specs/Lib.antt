@@ -3,3 +3,4 @@ pub mod Extensions
 pub mod Fields
 pub mod Places
 pub mod Cuts
+pub mod Written

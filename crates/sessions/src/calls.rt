@@ -210,7 +210,7 @@ impl Table {
         }
     }
 
-    // Is there a session of that axle and identifier, and with EMS? No secret is touched.
+    // Is there a session of that axle and identifier, and with EMS? No secret is handed out.
     pub fn known(self, axle: u8, identifier: &[u8]) -> Known
         ensures { λ r. ⌜ Knows self axle (now (identifier .entry)) r ⌝ }
     {

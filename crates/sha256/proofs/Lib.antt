@@ -3,3 +3,4 @@ pub mod Hashing
 pub mod Taking
 pub mod Padded
 pub mod OneShot
+pub mod Schedules

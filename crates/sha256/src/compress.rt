@@ -102,7 +102,7 @@ fn constants() -> [u32; 64]
     K
 }
 
-// The 64 words of the block that starts at index at.
+// The 64 words of the block that starts at index at. The last two stay in locals: the next two are made of them.
 fn expand(b: &[u8], at: usize) -> [u32; 64]
     requires { ⌜ at + 64 ≤ length (now b) ⌝ }
     ensures { λ r. ⌜ r ≡ schedule 48 (take 64 (drop at (now (b .entry)))) ⌝ }
@@ -114,10 +114,15 @@ fn expand(b: &[u8], at: usize) -> [u32; 64]
         w[t] = join(b[i], b[i + 1], b[i + 2], b[i + 3]);
         t += 1;
     }
+    let mut x = w[14];
+    let mut y = w[15];
     let mut n = 0;
     while n < 48 {
-        w[n + 16] = next_word(w[n], w[n + 1], w[n + 9], w[n + 14]);
-        n += 1;
+        x = next_word(w[n], w[n + 1], w[n + 9], x);
+        w[n + 16] = x;
+        y = next_word(w[n + 1], w[n + 2], w[n + 10], y);
+        w[n + 17] = y;
+        n += 2;
     }
     w
 }

@@ -1,0 +1,124 @@
+-- The client's numbers in their order: each way out is the first test that holds.
+-- Assumes nothing.
+use mathlib.Core.Path.{_≡_, refl, sym, _∙_, ap}
+use mathlib.Core.Bool.{Bool, true, false, not, _||_}
+use mathlib.Core.List.{List}
+use mathlib.Core.Option.{Option, none, some}
+use Prim.Native.Nat.{ℕ, _≤_, _<_}
+use native.Mathlib.Omega.{arith}
+use lib.ListN.{length}
+use borrow.Author.Tests.{eq-eqb, ne-eqb, lt-ltb, le-ltb}
+use Rattle.seqs.specs.Pick.{pick}
+use Rattle.seqs.specs.Cases.{by-test}
+use Rattle.refusal.specs.First.{firstOf}
+use Rattle.refusal.specs.Table.{refusalOf}
+use Rattle.octets.specs.Same.{same}
+use Rattle.refusal.specs.declared.Refusal.{Refusal}
+use Rattle.hello.specs.Fields.{Hello, Reading, fields}
+use Rattle.hello.proofs.Learnt.{Faulted}
+use Rattle.decision.specs.Connection.{later, closed, present, Outcome, forbidden, refusedBy}
+use Rattle.decision.specs.Client.{Told, told, Lent, lentEms, badOffer, clientWrong, clientFlag, clientResumes, clientOutcome, clientNumber, clientDecision}
+use Rattle.decision.specs.Steps.{riOf, lentOf, clientTurn, refusing, decidedIn, toldOutcome, toldNumber, clientPlain}
+use Rattle.decision.specs.declared.connection.Connection.{Connection}
+use Rattle.decision.specs.declared.connection.Switches.{Switches}
+use Rattle.decision.specs.declared.connection.Decision.{Decision}
+use Rattle.decision.proofs.Judging.{decision-refused, decision-done}
+
+-- the offer
+module _ (i : List ℕ) (lent : Bool) (j : List ℕ) (ems : Bool) where
+  pub offer-long : 32 < length i → badOffer i (lentOf lent j ems) ≡ true
+  unfolding badOffer
+  offer-long h = rw (lt-ltb 32 (length i) h)
+
+  pub offer-none : length i ≡ 0 → badOffer i (lentOf lent j ems) ≡ false
+  unfolding badOffer
+  offer-none h = rw (le-ltb 32 (length i) (omega arith), eq-eqb (length i) 0 h)
+
+  pub offer-lent : length i ≤ 32 → (length i ≡ 0 → ⊥) → lent ≡ true → badOffer i (lentOf lent j ems) ≡ not (same j i)
+  unfolding badOffer
+  offer-lent h k l = rw (le-ltb 32 (length i) h, ne-eqb (length i) 0 k, l)
+
+  pub offer-unlent : length i ≤ 32 → (length i ≡ 0 → ⊥) → lent ≡ false → badOffer i (lentOf lent j ems) ≡ true
+  unfolding badOffer
+  offer-unlent h k l = rw (le-ltb 32 (length i) h, ne-eqb (length i) 0 k, l)
+
+module _ (i : List ℕ) (t : Told) where
+  pub names-none : length i ≡ 0 → clientResumes i t ≡ false
+  unfolding clientResumes
+  names-none h = rw (eq-eqb (length i) 0 h)
+
+  pub names-some : (length i ≡ 0 → ⊥) → clientResumes i t ≡ same (t .identifier) i
+  unfolding clientResumes
+  names-some h = rw (ne-eqb (length i) 0 h)
+
+module _ (c : Connection) (s : Switches) (i : List ℕ) (e : Bool) (t : Told) where
+  refusal-of : (n : ℕ) {d : Decision} → toldNumber c s i e t ≡ n → (n ≡ 0 → ⊥) → d ≡ refusing (refusalOf n) → d ≡ clientPlain c s i e t
+  unfolding clientPlain refusedBy
+  refusal-of n p h q = rw p (q ∙ sym (decision-refused n _ _ _ h))
+
+  pub told-others : {d : Decision} → t .others ≡ true → d ≡ refusing (refusalOf 4) → d ≡ clientPlain c s i e t
+  unfolding toldNumber firstOf
+  told-others h q = refusal-of 4 (rw h) (λ z. omega arith) q
+
+  module _ (known : t .others ≡ false) where
+    pub told-turn : (n : ℕ) {d : Decision} → clientTurn c s (t .ri) ≡ n → (n ≡ 0 → ⊥) → d ≡ refusing (refusalOf n) → d ≡ clientPlain c s i e t
+    unfolding toldNumber clientTurn clientWrong firstOf
+    told-turn n p h q = refusal-of n stopped h q
+      where
+        stopped : toldNumber c s i e t ≡ n
+        stopped =
+            by-test (closed c)
+            (λ x. rw (known, x) (rw x at p))
+            (λ x.
+            by-test (clientWrong c s t)
+            (λ y. rw (known, x, y) (rw (x, y) at p))
+            (λ y. absurd (h (sym (rw (x, y) at p)))))
+
+    past : clientTurn c s (t .ri) ≡ 0 → toldNumber c s i e t ≡ pick (forbidden (toldOutcome s i e t)) 6 0
+    unfolding toldNumber clientTurn clientWrong firstOf
+    past p =
+        by-test (closed c)
+        (λ x. let z : _≡_ {A = ℕ} 7 0 = rw x at p in absurd (omega arith))
+        (λ x.
+        by-test (clientWrong c s t)
+        (λ y. let z : _≡_ {A = ℕ} 5 0 = rw (x, y) at p in absurd (omega arith))
+        (λ y. rw (known, x, y)))
+
+    pub told-done : {d : Decision} {flag : Bool} → clientTurn c s (t .ri) ≡ 0 → flag ≡ clientFlag c t
+        → d ≡ decidedIn (toldOutcome s i e t) flag 0 → d ≡ clientPlain c s i e t
+    unfolding clientPlain refusedBy
+    told-done p f q =
+        by-test (forbidden (toldOutcome s i e t))
+        (λ x. refusal-of 6 (past p ∙ (rw x)) (λ z. omega arith) (q ∙ six (toldOutcome s i e t) _ x))
+        (λ x. rw (past p, x, ← f) (q ∙ sym (decision-done (toldOutcome s i e t) _ 0 x)))
+      where
+        six : (o : Option Outcome) (flag : Bool) → forbidden o ≡ true → decidedIn o flag 0 ≡ refusing (refusalOf 6)
+        six none flag h = refl
+        six (some o) flag h = let z : _≡_ {A = ℕ} 0 1 = cc in absurd (omega arith)
+
+pub flag-told : (c : Connection) (indicated : Bool) (t : Told) (bytes : List ℕ) {flag : Bool} → t .ri ≡ riOf indicated bytes
+    → flag ≡ pick (later c) true (false || indicated) → flag ≡ clientFlag c t
+unfolding clientFlag
+flag-told c indicated t bytes e f = f ∙ (rw e (go indicated))
+  where
+    go : (i : Bool) → pick (later c) true (false || i) ≡ pick (later c) true (present (riOf i bytes))
+    go true = refl
+    go false = refl
+
+-- the whole decision, from the reading on
+module _ (r : Reading) (i : List ℕ) (l : Option Lent) (c : Connection) (s : Switches) where
+  whole-refusal : (n : ℕ) {d : Decision} → clientNumber r i l c s ≡ n → (n ≡ 0 → ⊥) → d ≡ refusing (refusalOf n) → d ≡ clientDecision r i l c s
+  unfolding clientDecision refusedBy
+  whole-refusal n p h q = rw p (q ∙ sym (decision-refused n _ _ _ h))
+
+  pub decide-offer : {d : Decision} → badOffer i l ≡ true → d ≡ refusing (refusalOf 11) → d ≡ clientDecision r i l c s
+  unfolding clientNumber firstOf
+  decide-offer h q = whole-refusal 11 (rw h) (λ z. omega arith) q
+
+  pub decide-fault : {d : Decision} {x : Refusal} → badOffer i l ≡ false → Faulted r x → d ≡ refusing x → d ≡ clientDecision r i l c s
+  unfolding clientNumber firstOf
+  decide-fault h f q = whole-refusal (f .number) (rw (h, f .reading)) (f .some) (q ∙ ap refusing (f .refusal))
+
+  pub decide-told : {d : Decision} {h : Hello} {e : Bool} → badOffer i l ≡ false → r ≡ fields h → e ≡ lentEms l → d ≡ clientPlain c s i e (told r) → d ≡ clientDecision r i l c s
+  unfolding clientNumber clientDecision clientPlain toldNumber toldOutcome clientOutcome firstOf
+  decide-told o f e q = q ∙ (rw (e, o, f))

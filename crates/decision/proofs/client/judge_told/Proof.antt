@@ -1,0 +1,77 @@
+-- The client's decision on plain values, way by way.
+-- Assumes nothing.
+use mathlib.Core.Path.{refl, sym, _∙_, ap}
+use mathlib.Core.Bool.{Bool}
+use mathlib.Core.Option.{Option}
+use Rattle.seqs.specs.Pick.{pick}
+use Rattle.decision.specs.Connection.{Outcome}
+use Rattle.decision.specs.Client.{resumption, fullness}
+use Rattle.decision.specs.Steps.{riOf, toldOf, refusing, decidedIn, toldOutcome}
+use Rattle.decision.proofs.Telling.{told-others, told-turn, told-done, flag-told}
+use borrow.Author.Needs.{needs}
+use Rattle.decision.proofs.client.judge_told.Statement.{statement}
+use Rattle.decision.proofs.client.judge_told.Tie as tie
+
+refuse-requires : tie.Need-refuse-requires
+refuse-requires c κs = search needs
+
+refused-requires : tie.Need-refused-requires
+refused-requires c κs = search needs
+
+returns : tie.Need-returns
+returns c =
+    let a = c .before .before .before .before .before .before .args in
+    told-others (a .connection) (a .switches) (a .offered .now) (a .session-ems) (toldOf (a .identifier .now) (riOf (a .indicated) (a .indication .now)) (a .ems) (a .others)) (c .before .before .if1 .taken) (c .refused .ensures ∙ ap refusing (c .before .refuse .ensures))
+
+client-indication-requires : tie.Need-client-indication-requires
+client-indication-requires c κs = search needs
+
+refuse-requires-2 : tie.Need-refuse-requires-2
+refuse-requires-2 c κs = search needs
+
+refused-requires-2 : tie.Need-refused-requires-2
+refused-requires-2 c κs = search needs
+
+returns-2 : tie.Need-returns-2
+returns-2 c =
+    let a = c .before .before .before .before .before .before .before .before .args in
+    told-turn (a .connection) (a .switches) (a .offered .now) (a .session-ems) (toldOf (a .identifier .now) (riOf (a .indicated) (a .indication .now)) (a .ems) (a .others)) (c .before .before .before .before .if1 .left) _ (sym (c .before .before .before .client-indication .ensures)) (c .before .before .if2 .taken) (c .refused2 .ensures ∙ ap refusing (c .before .refuse2 .ensures))
+
+names-requires : tie.Need-names-requires
+names-requires c κs = search needs
+
+client-outcome-requires : tie.Need-client-outcome-requires
+client-outcome-requires c κs = search needs
+
+flag-of-requires : tie.Need-flag-of-requires
+flag-of-requires c κs = search needs
+
+decided-requires : tie.Need-decided-requires
+decided-requires c κs = search needs
+
+returns-3 : tie.Need-returns-3
+unfolding toldOutcome
+returns-3 c =
+    let a = c .before .before .before .before .before .before .before .before .before .before .args in
+    let t = (toldOf (a .identifier .now) (riOf (a .indicated) (a .indication .now)) (a .ems) (a .others)) in
+    let o = c .before .before .client-outcome .ensures ∙ ap (λ (x : Bool). pick x (resumption (a .switches) (a .session-ems) (a .ems)) (fullness (a .switches) (a .ems))) (c .before .before .before .names .ensures t refl) in
+    told-done (a .connection) (a .switches) (a .offered .now) (a .session-ems) t (c .before .before .before .before .before .before .if1 .left) (sym (c .before .before .before .before .before .client-indication .ensures) ∙ c .before .before .before .before .if2 .left)
+    (flag-told (a .connection) (a .indicated) t (a .indication .now) refl (c .before .flag-of .ensures))
+    (c .decided .ensures ∙ ap (λ (x : Option Outcome). decidedIn x (c .before .flag-of .result) 0) o)
+
+pub judge-told-spec : {M : Type 1} → statement M
+judge-told-spec =
+    tie.close
+    (tie.spec
+    refuse-requires
+    refused-requires
+    returns
+    client-indication-requires
+    refuse-requires-2
+    refused-requires-2
+    returns-2
+    names-requires
+    client-outcome-requires
+    flag-of-requires
+    decided-requires
+    returns-3)

@@ -1,0 +1,53 @@
+-- The session of a hello.
+-- Assumes nothing.
+use mathlib.Core.Path.{_≡_, sym, _∙_, ap}
+use Prim.Native.Nat.{ℕ, _+_, _-_}
+use native.Mathlib.Omega.{arith}
+use lib.ListN.{length, take, drop}
+use Rattle.hello.specs.Places.{clientPlaces}
+use Rattle.hello.specs.declared.client.ClientHello.{ClientHello}
+use Rattle.hello.proofs.Learnt.{client-learnt}
+use Rattle.decision.proofs.Serving.{session-none, session-found}
+use borrow.Author.Needs.{needs}
+use Rattle.decision.proofs.server.session_of.Statement.{statement}
+use Rattle.decision.proofs.server.session_of.Tie as tie
+
+returns : tie.Need-returns
+unfolding clientPlaces
+returns c =
+    let s = c .before .before .before in
+    let a = s .args in
+    let l = client-learnt (a .message .now) (a .hello) (s .pre) in
+    let n : a .hello .identifier .length ≡ length (l .hello .identifier) = ap (λ (x : ClientHello). x .identifier .length) (l .places) in
+    session-none (a .table) (a .axle) _ (l .hello) (l .reading) (sym n ∙ c .if1 .taken)
+
+add-end : tie.Need-add-end
+add-end c = let s = c .before .before .before in omega (arith, client-learnt (s .args .message .now) (s .args .hello) (s .pre) .identifier .within)
+
+sub-known : tie.Need-sub-known
+sub-known c = search needs
+
+part-known-start : tie.Need-part-known-start
+part-known-start c = search needs
+
+part-known-end : tie.Need-part-known-end
+part-known-end c = let s = c .before .before .before in omega (arith, client-learnt (s .args .message .now) (s .args .hello) (s .pre) .identifier .within)
+
+known-requires : tie.Need-known-requires
+known-requires c κs = search needs
+
+returns-2 : tie.Need-returns-2
+unfolding clientPlaces
+returns-2 c =
+    let s = c .before .before .before .before .before in
+    let a = s .args in
+    let l = client-learnt (a .message .now) (a .hello) (s .pre) in
+    let n : a .hello .identifier .length ≡ length (l .hello .identifier) = ap (λ (x : ClientHello). x .identifier .length) (l .places) in
+    let k : a .hello .identifier .at + a .hello .identifier .length - a .hello .identifier .at ≡ a .hello .identifier .length = omega arith in
+    session-found (a .table) (a .axle) _ (l .hello) (l .reading) (λ z. c .before .before .if1 .left (n ∙ z)) _ (c .known .result)
+    (ap (λ (x : ℕ). take x (drop (a .hello .identifier .at) (a .message .now))) k ∙ l .identifier .is) (c .known .ensures)
+
+pub session-of-spec : {M : Type 1} → statement M
+session-of-spec =
+    tie.close
+    (tie.spec returns add-end sub-known part-known-start part-known-end known-requires returns-2)

@@ -1,0 +1,94 @@
+-- Document 01, 'Client's decision'.
+-- Assumes nothing.
+use mathlib.Core.Bool.{Bool, true, false, not, _&&_, _||_}
+use mathlib.Core.List.{List, [], _∷_, _++_}
+use mathlib.Core.Option.{Option, none, some}
+use Prim.Native.Nat.{ℕ}
+use lib.Dec.{eqb, ltb}
+use lib.ListN.{length}
+use Rattle.seqs.specs.Pick.{pick}
+use Rattle.refusal.specs.First.{firstOf}
+use Rattle.octets.specs.Same.{same}
+use Rattle.hello.specs.Extensions.{indicationOf, emsOf, othersOf}
+use Rattle.hello.specs.Fields.{Reading, fields, fault}
+use Rattle.decision.specs.Connection.{later, closed, present, saying, wrongFirst, legacyFull, legacyResumption, Outcome, fullEms, fullLegacy, resumedEms, resumedLegacy, allowed, forbidden, decision}
+use Rattle.decision.specs.Server.{faulty, faultOf}
+use Rattle.decision.specs.declared.connection.Connection.{Connection}
+use Rattle.decision.specs.declared.connection.Switches.{Switches}
+use Rattle.decision.specs.declared.connection.Decision.{Decision}
+
+-- what the decision asks of a ServerHello
+pub record Told : Type 0 where
+  pub identifier : List ℕ
+  pub ri : Option (List ℕ)
+  pub ems : Bool
+  -- a type other than these two is there
+  pub others : Bool
+
+abbrev pub told : Reading → Told
+told (fields h) = record { identifier = h .identifier; ri = indicationOf (h .extensions); ems = emsOf (h .extensions); others = othersOf (h .extensions) }
+told (fault n) = record { identifier = []; ri = none; ems = false; others = false }
+
+-- the session that the offered identifier belongs to, as the client lends it
+pub record Lent : Type 0 where
+  pub identifier : List ℕ
+  pub ems : Bool
+
+abbrev pub bears : Option Lent → List ℕ → Bool
+bears none i = false
+bears (some l) i = same (l .identifier) i
+
+abbrev pub lentEms : Option Lent → Bool
+lentEms none = false
+lentEms (some l) = l .ems
+
+abbrev pub isEmpty : List ℕ → Bool
+isEmpty l = eqb (length l) 0
+
+-- 11: 'Offering more than 32 bytes, or an identifier without a session that bears it'
+unfoldable pub badOffer : List ℕ → Option Lent → Bool
+badOffer i l = ltb 32 (length i) || (not (isEmpty i) && not (bears l i))
+
+-- 5: 'First handshake: RI must be empty, else 5; missing .. is 5 where required. Later: .. RI must be the 24 saved bytes, else 5'
+unfoldable pub clientWrong : Connection → Switches → Told → Bool
+clientWrong c s t = pick (later c) (not (saying (c .client ++ c .server) (t .ri))) (wrongFirst s false (t .ri))
+
+-- 'missing clears the flag'
+unfoldable pub clientFlag : Connection → Told → Bool
+clientFlag c t = pick (later c) true (present (t .ri))
+
+-- 'A ServerHello naming the offered, non-empty identifier resumes'
+unfoldable pub clientResumes : List ℕ → Told → Bool
+clientResumes i t = not (isEmpty i) && same (t .identifier) i
+
+-- 'then its EMS must equal the session's, else 6, and neither having it needs the legacy resumption switch, else 6': by the
+-- session's EMS and the hello's
+unfoldable pub resumption : Switches → Bool → Bool → Option Outcome
+resumption s true true = some resumedEms
+resumption s true false = none
+resumption s false true = none
+resumption s false false = allowed (legacyResumption s) resumedLegacy
+
+-- 'Anything else means full: EMS if present, else legacy if allowed, else 6.'
+unfoldable pub fullness : Switches → Bool → Option Outcome
+fullness s true = some fullEms
+fullness s false = allowed (legacyFull s) fullLegacy
+
+unfoldable pub clientOutcome : Switches → List ℕ → Option Lent → Told → Option Outcome
+clientOutcome s i l t = pick (clientResumes i t) (resumption s (lentEms l) (t .ems)) (fullness s (t .ems))
+
+-- 4: 'Any other type from the server is 4.' 7: 'Later: bar set or flag clear is 7'
+unfoldable pub clientNumber : Reading → List ℕ → Option Lent → Connection → Switches → ℕ
+clientNumber r i l c s =
+    firstOf
+    ((11, badOffer i l)
+    ∷ (faultOf r, faulty r)
+    ∷ (4, told r .others)
+    ∷ (7, closed c)
+    ∷ (5, clientWrong c s (told r))
+    ∷ (6, forbidden (clientOutcome s i l (told r)))
+    ∷ [])
+
+-- the client writes no reply
+unfoldable pub clientDecision : Reading → List ℕ → Option Lent → Connection → Switches → Decision
+clientDecision r i l c s = decision (clientNumber r i l c s) (clientOutcome s i l (told r)) (clientFlag c (told r)) 0

@@ -1,0 +1,5 @@
+pub mod Connection
+pub mod Reply
+pub mod Server
+pub mod Client
+pub mod Steps

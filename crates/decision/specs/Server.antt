@@ -1,0 +1,105 @@
+-- Document 01, 'Server's decision'.
+-- Assumes nothing.
+use mathlib.Core.Path.{_≡_}
+use mathlib.Core.Bool.{Bool, true, false, not, _||_}
+use mathlib.Core.List.{List, [], _∷_}
+use mathlib.Core.Option.{Option, none, some}
+use Prim.Native.Nat.{ℕ}
+use lib.Dec.{eqb, ltb}
+use lib.ListN.{length}
+use Rattle.seqs.specs.Pick.{pick}
+use Rattle.refusal.specs.First.{firstOf}
+use Rattle.octets.specs.Put.{putList}
+use Rattle.sessions.specs.Book.{Session, Book, sought, badAxle}
+use Rattle.sessions.specs.Keeps.{Keeps}
+use Rattle.sessions.specs.declared.table.Table.{Table}
+use Rattle.hello.specs.Extensions.{indicationOf, emsOf}
+use Rattle.hello.specs.Fields.{Reading, fields, fault, signalIn}
+use Rattle.decision.specs.Connection.{later, closed, present, saying, wrongFirst, legacyFull, legacyResumption, Outcome, fullEms, fullLegacy, resumedEms, resumedLegacy, allowed, forbidden, withEms, decision}
+use Rattle.decision.specs.Reply.{replyOf}
+use Rattle.decision.specs.declared.connection.Connection.{Connection}
+use Rattle.decision.specs.declared.connection.Switches.{Switches}
+use Rattle.decision.specs.declared.connection.Decision.{Decision}
+
+-- what the decision asks of a ClientHello
+pub record Asked : Type 0 where
+  pub signal : Bool
+  pub ri : Option (List ℕ)
+  pub ems : Bool
+
+abbrev pub asked : Reading → Asked
+asked (fields h) = record { signal = signalIn (h .suites); ri = indicationOf (h .extensions); ems = emsOf (h .extensions) }
+asked (fault n) = record { signal = false; ri = none; ems = false }
+
+-- a reading's fault: 10, 1, 2 or 3, in that order
+abbrev pub faulty : Reading → Bool
+faulty (fields h) = false
+faulty (fault n) = true
+
+abbrev pub faultOf : Reading → ℕ
+faultOf (fields h) = 0
+faultOf (fault n) = n
+
+-- 'The hello's identifier, if not empty, is looked up for its axle': the EMS of the session found, or none
+abbrev pub emsFound : Option Session → Option Bool
+emsFound none = none
+emsFound (some s) = some (s .ems)
+
+unfoldable pub sessionIn : ℕ → Reading → Book → Option Bool
+sessionIn axle (fields h) b = pick (eqb (length (h .identifier)) 0) none (emsFound (sought axle (h .identifier) b))
+sessionIn axle (fault n) b = none
+
+-- 5. First handshake: as of either side, where the signal stands for an empty RI. Later: 'the signal present is 5, RI missing
+-- is 5, RI other than the saved client verify_data is 5'
+unfoldable pub serverWrong : Connection → Switches → Asked → Bool
+serverWrong c s a = pick (later c) (a .signal || not (saying (c .client) (a .ri))) (wrongFirst s (a .signal) (a .ri))
+
+-- 'First handshake: signal or RI present sets the flag; .. neither clears the flag'. In a later one it is set, or the handshake is closed.
+unfoldable pub serverFlag : Connection → Asked → Bool
+serverFlag c a = pick (later c) true (a .signal || present (a .ri))
+
+-- the table of six rows: by the session's EMS, or none, and by the hello's
+unfoldable pub serverOutcome : Switches → Option Bool → Bool → Option Outcome
+serverOutcome s none true = some fullEms
+serverOutcome s none false = allowed (legacyFull s) fullLegacy
+serverOutcome s (some false) true = some fullEms
+serverOutcome s (some false) false = allowed (legacyResumption s) resumedLegacy
+serverOutcome s (some true) true = some resumedEms
+serverOutcome s (some true) false = none
+
+-- the reply that goes with it
+unfoldable pub serverReply : Connection → Switches → Option Bool → Asked → List ℕ
+serverReply c s k a = replyOf c (serverFlag c a) (withEms (serverOutcome s k (a .ems)))
+
+-- the number, for a lent output that holds out
+unfoldable pub serverNumber : ℕ → Reading → Option Bool → Connection → Switches → List ℕ → ℕ
+serverNumber axle r k c s out =
+    firstOf
+    ((11, badAxle axle)
+    ∷ (faultOf r, faulty r)
+    ∷ (9, closed c)
+    ∷ (5, serverWrong c s (asked r))
+    ∷ (6, forbidden (serverOutcome s k (asked r .ems)))
+    ∷ (10, ltb (length out) (length (serverReply c s k (asked r))))
+    ∷ [])
+
+unfoldable pub serverDecision : ℕ → Reading → Option Bool → Connection → Switches → List ℕ → Decision
+serverDecision axle r k c s out =
+    decision (serverNumber axle r k c s out) (serverOutcome s k (asked r .ems)) (serverFlag c (asked r)) (length (serverReply c s k (asked r)))
+
+-- 'Output beyond the reply is untouched.'
+unfoldable pub serverOutput : ℕ → Reading → Option Bool → Connection → Switches → List ℕ → List ℕ
+serverOutput axle r k c s out = pick (eqb (serverNumber axle r k c s out) 0) (putList out (serverReply c s k (asked r))) out
+
+-- What the call promises: the answer, and what the lent output then holds, are those of a book
+pub record Decided (axle : ℕ) (r : Reading) (b : Book) (c : Connection) (s : Switches) (out : List ℕ) (d : Decision) (out′ : List ℕ) : Type 0 where
+  pub answer : d ≡ serverDecision axle r (sessionIn axle r b) c s out
+  pub output : out′ ≡ serverOutput axle r (sessionIn axle r b) c s out
+
+-- of a table t whatever it is, and of the book that it keeps
+pub record ServerDecides (t : Table) (axle : ℕ) (r : Reading) (c : Connection) (s : Switches) (out : List ℕ) (d : Decision) (out′ : List ℕ) : Type 0 where
+  pub row : Book
+  pub of-row : Decided axle r row c s out d out′
+  -- refused: nothing is written
+  pub refused : (d .refusal .number ≡ 0 → ⊥) → out′ ≡ out
+  pub answers : (b : Book) → Keeps t b → Decided axle r b c s out d out′

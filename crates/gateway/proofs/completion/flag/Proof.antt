@@ -1,0 +1,14 @@
+-- A flag as 0 or 1.
+-- Assumes nothing.
+use Rattle.gateway.proofs.Completing.{flag-no, flag-yes}
+use Rattle.gateway.proofs.completion.flag.Statement.{statement}
+use Rattle.gateway.proofs.completion.flag.Tie as tie
+
+returns : tie.Need-returns
+returns c = flag-no _ (c .if1 .taken)
+
+returns-2 : tie.Need-returns-2
+returns-2 c = flag-yes _ (c .if1 .left)
+
+pub flag-spec : {M : Type 1} → statement M
+flag-spec = tie.close (tie.spec returns returns-2)

@@ -1,0 +1,110 @@
+-- Document 01, 'Readings and cases': every case marked P, as one table under one statement about the definitions that the contracts
+-- cite. It is proved by computation in proofs/Cases.antt.
+-- Assumes nothing.
+use mathlib.Core.Path.{_≡_}
+use mathlib.Core.Bool.{true, false}
+use mathlib.Core.List.{List, [], _∷_, _++_}
+use mathlib.Core.Option.{none, some}
+use Prim.Native.Nat.{ℕ, zero, suc, _+_}
+use lib.ListN.{length, replicate}
+use Rattle.hello.specs.Layout.{Parse}
+use Rattle.hello.specs.Layout.Parse.{malformed, holds}
+use Rattle.hello.specs.Extensions.{Extension, extensionsOf, indicationOf, emsOf}
+use Rattle.hello.specs.Fields.{readClient}
+use Rattle.sessions.specs.Book.{Call, store, empty, bookFrom, sought}
+use Rattle.sessions.specs.Book as book
+use Rattle.decision.specs.Connection.{fullEms, decided}
+use Rattle.decision.specs.Server.{serverNumber, serverDecision}
+use Rattle.decision.specs.declared.connection.Connection.{Connection}
+use Rattle.decision.specs.declared.connection.Switches.{Switches}
+use Rattle.log.specs.History.{History, hashed}
+use Rattle.log.specs.History.History.{fresh}
+use Rattle.log.specs.Calls.{acceptNumber, afterAccept}
+
+-- ---- readings
+
+-- what a list of extensions says, where it is one
+abbrev pub saying : {A : Type 0} → (List Extension → A) → Parse (List Extension) → Parse A
+saying f malformed = malformed
+saying f (holds es) = holds (f es)
+
+-- ---- the server's decision
+
+-- a handshake message
+abbrev pub message : ℕ → List ℕ → List ℕ
+message kind body = kind ∷ 0 ∷ 0 ∷ length body ∷ body
+
+-- a ClientHello that names a session: 03 03, a random, the identifier 07, one suite, one method, and then the block
+abbrev pub hello : List ℕ → List ℕ
+hello block = message 1 ((3 ∷ 3 ∷ []) ++ replicate 32 0 ++ (1 ∷ 7 ∷ 0 ∷ 2 ∷ 0 ∷ 47 ∷ 1 ∷ 0 ∷ []) ++ block)
+
+abbrev pub withoutEms : List ℕ
+withoutEms = hello []
+
+abbrev pub withEms : List ℕ
+withEms = hello (0x00 ∷ 0x04 ∷ 0x00 ∷ 0x17 ∷ 0x00 ∷ 0x00 ∷ [])
+
+abbrev pub connection : ℕ → ℕ → Connection
+connection completed indication =
+    record { completed = completed; indication = indication; barred = 0; client = replicate 12 0; server = replicate 12 0 }
+
+-- legacy outcomes are allowed, or not
+abbrev pub legacy : ℕ → Switches
+legacy x = record { «indication_required» = 0; «legacy_full» = x; «legacy_resumption» = x }
+
+abbrev pub room : List ℕ
+room = replicate 35 0
+
+-- ---- the log
+
+-- the numbers of messages that are fed one after the other, from fresh, never told of resuming
+unfoldable pub numbersFrom : History → List (List ℕ) → List ℕ
+numbersFrom h [] = []
+numbersFrom h (m ∷ ms) = acceptNumber h m false ∷ numbersFrom (afterAccept h m false) ms
+
+-- ---- the table
+
+-- n stores of an axle, each under an identifier of its own: from, from + 1, ..
+abbrev pub stores : ℕ → ℕ → ℕ → List Call
+stores axle from zero = []
+stores axle from (suc n) = store axle (from ∷ []) true (replicate 48 0) ∷ stores axle (from + 1) n
+
+-- what axles 1 to 6 hold after these calls, from empty
+unfoldable pub heldBy : List Call → List ℕ
+heldBy calls =
+    let b = bookFrom empty calls in
+    book.holds 1 b ∷ book.holds 2 b ∷ book.holds 3 b ∷ book.holds 4 b ∷ book.holds 5 b ∷ book.holds 6 b ∷ []
+
+-- axles 1 to 4 store eight each; axle 5 stores four
+abbrev pub crowded : List Call
+crowded = stores 1 0 8 ++ stores 2 10 8 ++ stores 3 20 8 ++ stores 4 30 8 ++ stores 5 40 4
+
+-- ---- the cases
+
+pub record Cases : Type 0 where
+  -- 'ff 01 00 01 00 is an empty RI.'
+  pub empty-ri : saying indicationOf (extensionsOf (0xff ∷ 0x01 ∷ 0x00 ∷ 0x01 ∷ 0x00 ∷ [])) ≡ holds (some [])
+  -- '00 17 00 00 is EMS.'
+  pub ems : saying emsOf (extensionsOf (0x00 ∷ 0x17 ∷ 0x00 ∷ 0x00 ∷ [])) ≡ holds true
+  -- '00 17 00 01 00 is malformed.'
+  pub ems-with-data : extensionsOf (0x00 ∷ 0x17 ∷ 0x00 ∷ 0x01 ∷ 0x00 ∷ []) ≡ malformed
+  -- 'session with EMS, hello without: 6.' Whatever is allowed.
+  pub ems-lost : serverNumber 1 (readClient withoutEms) (some true) (connection 0 0) (legacy 1) room ≡ 6
+  -- 'without, hello with: full.' With EMS, and 6 bytes of reply.
+  pub ems-new : serverDecision 1 (readClient withEms) (some false) (connection 0 0) (legacy 0) room ≡ decided fullEms false 6
+  -- 'later handshake, flag clear: 9.'
+  pub flag-clear : serverNumber 1 (readClient withEms) none (connection 1 0) (legacy 1) room ≡ 9
+  -- 'log 1, 2, 20 not told it resumes: 7 at the third.'
+  pub early-finished : numbersFrom fresh (message 1 [] ∷ message 2 [] ∷ message 20 (replicate 12 0) ∷ []) ≡ 0 ∷ 0 ∷ 7 ∷ []
+  -- 'type 0 first leaves the hash empty.'
+  pub type-0-first : numbersFrom fresh (message 0 [] ∷ []) ≡ 0 ∷ []
+  pub type-0-hashed : hashed (afterAccept fresh (message 0 []) false) ≡ []
+  -- 'axle 1 stores nine different identifiers into an empty table: holds 8, the first is gone.'
+  pub nine : heldBy (stores 1 0 9) ≡ 8 ∷ 0 ∷ 0 ∷ 0 ∷ 0 ∷ 0 ∷ []
+  pub first-gone : sought 1 (0 ∷ []) (bookFrom empty (stores 1 0 9)) ≡ none
+  -- 'All identifiers differing, from empty. Axles 1 to 4 store eight each; axle 5 stores four: held 7, 7, 7, 7, 4, 0.'
+  pub five : heldBy crowded ≡ 7 ∷ 7 ∷ 7 ∷ 7 ∷ 4 ∷ 0 ∷ []
+  -- 'its fifth: the same.'
+  pub fifth : heldBy (crowded ++ stores 5 50 1) ≡ 7 ∷ 7 ∷ 7 ∷ 7 ∷ 4 ∷ 0 ∷ []
+  -- 'axle 6 then stores one: 6, 7, 7, 7, 4, 1.'
+  pub six : heldBy (crowded ++ stores 5 50 1 ++ stores 6 60 1) ≡ 6 ∷ 7 ∷ 7 ∷ 7 ∷ 4 ∷ 1 ∷ []

@@ -1,0 +1,46 @@
+// The message log (document 01).
+ghost use mathlib.Core.Path.{_≡_};
+ghost use Rattle.seqs.specs.Flag.{yes};
+ghost use Rattle.log.specs.History.History.{fresh};
+ghost use Rattle.log.specs.Stands.{Stands};
+ghost use Rattle.log.specs.Promise.{Accepts, Checks, Hashes, Expects};
+use log::Accepted;
+use log::Checked;
+use log::Expected;
+use log::Log;
+use log::SessionHash;
+
+#[no_mangle]
+pub extern "C" fn axle_log_fresh() -> Log
+    ensures { λ r. ⌜ Stands r fresh ⌝ }
+{
+    Log::fresh()
+}
+
+#[no_mangle]
+pub extern "C" fn axle_log_accept(log: Log, message: &[u8], resumes: u8) -> Accepted
+    ensures { λ r. ⌜ Accepts log (now (message .entry)) (yes resumes) r ⌝ }
+{
+    log.accept(message, resumes != 0)
+}
+
+#[no_mangle]
+pub extern "C" fn axle_log_session_hash(log: Log) -> SessionHash
+    ensures { λ r. ⌜ Hashes log r ⌝ }
+{
+    log.session_hash()
+}
+
+#[no_mangle]
+pub extern "C" fn axle_log_check_finished(log: Log, secret: &[u8], message: &[u8]) -> Checked
+    ensures { λ r. ⌜ Checks log (now (secret .entry)) (now (message .entry)) r ⌝ }
+{
+    log.check_finished(secret, message)
+}
+
+#[no_mangle]
+pub extern "C" fn axle_log_expected_finished(log: Log, secret: &[u8]) -> Expected
+    ensures { λ r. ⌜ Expects log (now (secret .entry)) r ⌝ }
+{
+    log.expected_finished(secret)
+}

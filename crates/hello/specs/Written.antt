@@ -1,0 +1,26 @@
+-- A list of extensions as bytes: the layout the other way round.
+-- Assumes nothing.
+use mathlib.Core.List.{List, [], _∷_, _++_}
+use Prim.Native.Nat.{ℕ, _/_, _%_}
+use lib.ListN.{length}
+use Rattle.hello.specs.Extensions.{Extension, riKind, emsKind}
+
+-- a number in two bytes
+abbrev pub twoBytes : ℕ → List ℕ
+twoBytes n = (n / 256) ∷ (n % 256) ∷ []
+
+unfoldable pub writtenList : List Extension → List ℕ
+writtenList [] = []
+writtenList (e ∷ es) = twoBytes (e .kind) ++ twoBytes (length (e .content)) ++ e .content ++ writtenList es
+
+-- the list behind its 2-byte length
+unfoldable pub writtenBlock : List Extension → List ℕ
+writtenBlock es = twoBytes (length (writtenList es)) ++ writtenList es
+
+-- renegotiation_info that holds some bytes
+abbrev pub riHolding : List ℕ → Extension
+riHolding bytes = record { kind = riKind; content = length bytes ∷ bytes }
+
+-- extended_master_secret
+abbrev pub emsExtension : Extension
+emsExtension = record { kind = emsKind; content = [] }
