@@ -1,0 +1,28 @@
+-- Document 01's example, computed from the definition.
+-- Assumes nothing.
+use mathlib.Core.Path.{_≡_, refl}
+use mathlib.Core.List.{[], _∷_}
+use Rattle.refusal.specs.First.{firstOf}
+use Rattle.message.specs.Numbers.{byteAt, pairAt, tripleAt}
+use Rattle.message.specs.Frame.{kindOf, bodyOf, overlong, misstated}
+use Rattle.log.specs.Order.{turns, look, number, somewhere}
+use Rattle.log.specs.History.{placeOf, remembered}
+use Rattle.log.specs.Calls.{wrongBody, misshapen, outOfTurn, isMessage, unchecked, acceptNumber, afterAccept}
+use Rattle.listing.specs.Contents.{countOf, lengthsIn, lengthsOf, contentsSize, partsOf, bodiesOf, total, goodCase}
+use Rattle.listing.specs.Digits.{ascii, digits, decimal}
+use Rattle.listing.specs.Texts.{header, refused, columnOf, row}
+use Rattle.listing.specs.Listing.{kindColumn, helloColumn, logNumber, logAfter, lineFor, lines, listing}
+
+example : listing (2 ∷ 0 ∷ 4 ∷ 0 ∷ 4 ∷ 0 ∷ 0 ∷ 0 ∷ 0 ∷ 16 ∷ 0 ∷ 0 ∷ 0 ∷ []) ≡ ascii "message type log hello\n1 0 0 -\n2 16 7 -\n"
+unfolding firstOf byteAt pairAt tripleAt kindOf bodyOf overlong misstated turns look number somewhere placeOf remembered wrongBody misshapen outOfTurn isMessage unchecked acceptNumber afterAccept countOf lengthsIn lengthsOf contentsSize partsOf bodiesOf total goodCase ascii digits decimal header columnOf row kindColumn helloColumn logNumber logAfter lineFor lines listing
+example = refl
+
+-- no count byte
+nothing : listing [] ≡ ascii "message type log hello\ncontents refused\n"
+unfolding byteAt countOf lengthsIn lengthsOf contentsSize total goodCase ascii header refused listing
+nothing = refl
+
+-- a count of 0 and nothing else
+no-messages : listing (0 ∷ []) ≡ ascii "message type log hello\n"
+unfolding byteAt countOf lengthsIn lengthsOf contentsSize partsOf bodiesOf total goodCase ascii header lines listing
+no-messages = refl

@@ -1,0 +1,5 @@
+pub mod Contents
+pub mod Digits
+pub mod Texts
+pub mod Listing
+pub mod Steps

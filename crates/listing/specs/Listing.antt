@@ -1,0 +1,67 @@
+-- Document 01, 'Program loglist': all that it prints.
+-- Assumes nothing.
+use mathlib.Core.Bool.{false, _&&_}
+use mathlib.Core.List.{List, [], _∷_, _++_}
+use Prim.Native.Nat.{ℕ, _+_}
+use lib.Dec.{eqb}
+use lib.ListN.{replicate}
+use Rattle.seqs.specs.Pick.{pick}
+use Rattle.message.specs.Frame.{kindOf}
+use Rattle.log.specs.History.{History}
+use Rattle.log.specs.History.History.{fresh}
+use Rattle.log.specs.Calls.{acceptNumber, afterAccept}
+use Rattle.hello.specs.Fields.{readClient}
+use Rattle.sessions.specs.Book.{empty}
+use Rattle.decision.specs.Server.{sessionIn, serverDecision}
+use Rattle.decision.specs.declared.connection.Connection.{Connection}
+use Rattle.decision.specs.declared.connection.Switches.{Switches}
+use Rattle.decision.specs.declared.connection.Decision.{Decision}
+use Rattle.listing.specs.Contents.{goodCase, bodiesOf}
+use Rattle.listing.specs.Texts.{header, refused, row}
+use Rattle.listing.specs.declared.line.Column.{Column}
+use Rattle.listing.specs.declared.line.Column.the-variants.{Nothing, Number}
+
+-- 'An empty body has type `-`.'
+unfoldable pub kindColumn : List ℕ → Column
+kindColumn [] = Nothing
+kindColumn (kind ∷ rest) = Number kind
+
+-- 'Fresh: all no, all zero.'
+abbrev pub freshConnection : Connection
+freshConnection = record { completed = 0; indication = 0; barred = 0; client = replicate 12 0; server = replicate 12 0 }
+
+abbrev pub allOff : Switches
+allOff = record { «indication_required» = 0; «legacy_full» = 0; «legacy_resumption» = 0 }
+
+-- 'the server decision (axle 1, empty table, fresh record, all switches off)', lent as many bytes as the longest reply has
+unfoldable pub decisionOn : List ℕ → Decision
+decisionOn m = serverDecision 1 (readClient m) (sessionIn 1 (readClient m) empty) freshConnection allOff (replicate 35 0)
+
+-- 'The hello column is the decision's number.'
+unfoldable pub decided : List ℕ → ℕ
+decided m = decisionOn m .refusal .number
+
+-- 'for an accepted type 1 it also prints the server decision': n is the log's number for the message
+unfoldable pub helloColumn : ℕ → List ℕ → Column
+helloColumn n m = pick (eqb n 0 && eqb (kindOf m) 1) (Number (decided m)) Nothing
+
+-- 'It feeds a fresh log never told of resuming': the log's number for a message
+unfoldable pub logNumber : History → List ℕ → ℕ
+logNumber h m = acceptNumber h m false
+
+-- 'A refused message is passed over and the next one fed.'
+unfoldable pub logAfter : History → List ℕ → History
+logAfter h m = afterAccept h m false
+
+-- the line of message i
+unfoldable pub lineFor : ℕ → History → List ℕ → List ℕ
+lineFor i h m = row i (kindColumn m) (logNumber h m) (helloColumn (logNumber h m) m)
+
+-- the lines of the messages from number i on
+unfoldable pub lines : ℕ → History → List (List ℕ) → List ℕ
+lines i h [] = []
+lines i h (m ∷ ms) = lineFor i h m ++ lines (i + 1) (logAfter h m) ms
+
+-- 'Bad contents print the header, then `contents refused`.'
+unfoldable pub listing : List ℕ → List ℕ
+listing case = header ++ pick (goodCase case) (lines 1 fresh (bodiesOf case)) refused

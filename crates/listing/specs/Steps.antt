@@ -1,0 +1,16 @@
+-- What feeding one message promises: the line that is printed of it, and the log after it.
+-- Assumes nothing.
+use mathlib.Core.Path.{_≡_}
+use mathlib.Core.List.{List}
+use Prim.Native.Nat.{ℕ, _≤_}
+use Rattle.log.specs.History.{History}
+use Rattle.log.specs.Stands.{Stands}
+use Rattle.log.specs.declared.state.Log.{Log}
+use Rattle.listing.specs.Texts.{lineOf}
+use Rattle.listing.specs.Listing.{lineFor, logAfter}
+use Rattle.listing.specs.declared.feed.Fed.{Fed}
+
+pub record Feeds (log : Log) (i : ℕ) (m : List ℕ) (r : Fed) : Type 0 where
+  pub short : r .line .length ≤ 16
+  pub line : (h : History) → Stands log h → lineOf (r .line) ≡ lineFor i h m
+  pub stands : (h : History) → Stands log h → Stands (r .log) (logAfter h m)

@@ -1,0 +1,77 @@
+// One message: what the log and the server's decision answer to it.
+use crate::line::Column;
+use crate::line::Line;
+use decision::Connection;
+use decision::Switches;
+use decision::decide_server;
+use log::Log;
+use message::byte;
+use sessions::Table;
+ghost use mathlib.Core.Path.{_≡_};
+ghost use Rattle.listing.specs.Listing.{kindColumn, decided, helloColumn};
+ghost use Rattle.listing.specs.Steps.{Feeds};
+
+const CLIENT_HELLO: usize = 1;
+
+const AXLE: u8 = 1;
+
+pub(crate) struct Fed {
+    pub line: Line,
+    pub log: Log,
+}
+
+// The type of a message; an empty one has none.
+fn kind(message: &[u8]) -> Column
+    ensures { λ r. ⌜ r ≡ kindColumn (now (message .entry)) ⌝ }
+{
+    if message.len() == 0 {
+        return Column::Nothing;
+    }
+    Column::Number(message[0])
+}
+
+// The server's decision on a ClientHello from nobody known: an empty table, a fresh connection, every switch off.
+fn decide(message: &[u8]) -> u8
+    ensures { λ r. ⌜ r ≡ decided (now (message .entry)) ⌝ }
+{
+    let table = Table::fresh();
+    let connection = Connection {
+        completed: 0,
+        indication: 0,
+        barred: 0,
+        client: [0; 12],
+        server: [0; 12],
+    };
+    let switches = Switches {
+        indication_required: 0,
+        legacy_full: 0,
+        legacy_resumption: 0,
+    };
+    let mut reply = [0u8; 35];
+    let decision = decide_server(message, AXLE, table, connection, switches, &mut reply);
+    decision.refusal.number
+}
+
+// What the decision answers to a ClientHello that the log accepted.
+fn hello(number: u8, message: &[u8]) -> Column
+    ensures { λ r. ⌜ r ≡ helloColumn number (now (message .entry)) ⌝ }
+{
+    if number != 0 {
+        return Column::Nothing;
+    }
+    if byte(message, 0) != CLIENT_HELLO {
+        return Column::Nothing;
+    }
+    Column::Number(decide(message))
+}
+
+// The line of a message, and the log after it.
+pub(crate) fn feed(log: Log, number: u8, message: &[u8]) -> Fed
+    ensures { λ r. ⌜ Feeds log number (now (message .entry)) r ⌝ }
+{
+    let accepted = log.accept(message, false);
+    let answer = accepted.refusal.number;
+    let line = Line::of(number, kind(message), answer, hello(answer, message));
+    let next = accepted.log;
+    Fed { line, log: next }
+}
