@@ -5,3 +5,5 @@ pub mod Judging
 pub mod Asking
 pub mod Telling
 pub mod Serving
+pub mod Agreement
+pub mod Cases

@@ -31,9 +31,9 @@ module _ (s : Switches) where
   unfolding resumption
   resumed-gained k e p q = rw (p, q)
 
-  pub resumed-legacy : (k e : Bool) {b : Bool} → k ≡ false → e ≡ false → legacyResumption s ≡ b → resumption s k e ≡ allowed b resumedLegacy
+  pub resumed-legacy : (k e : Bool) → k ≡ false → e ≡ false → resumption s k e ≡ allowed (legacyResumption s) resumedLegacy
   unfolding resumption
-  resumed-legacy k e p q r = rw (p, q, r)
+  resumed-legacy k e p q = rw (p, q)
 
   module _ (known k e : Bool) where
     pub row-none : known ≡ false → serverOutcome s (sessionOf known k) e ≡ fullness s e
@@ -56,7 +56,6 @@ module _ (s : Switches) where
     unfolding serverOutcome
     row-without-with h p q = rw (h, p, q)
 
-    pub row-without-without : {b : Bool} → known ≡ true → k ≡ false → e ≡ false → legacyResumption s ≡ b
-        → serverOutcome s (sessionOf known k) e ≡ allowed b resumedLegacy
+    pub row-without-without : known ≡ true → k ≡ false → e ≡ false → serverOutcome s (sessionOf known k) e ≡ allowed (legacyResumption s) resumedLegacy
     unfolding serverOutcome
-    row-without-without h p q r = rw (h, p, q, r)
+    row-without-without h p q = rw (h, p, q)

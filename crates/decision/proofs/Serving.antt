@@ -72,7 +72,7 @@ module _ (t : Table) (axle : ℕ) (r : Reading) (f : Hello) (e : r ≡ fields f)
       from b x = ap emsKnown x ∙ known-ems (sought axle i b) ∙ sym (looked h b ∙ ap (λ (y : List ℕ). emsFound (sought axle y b)) (sym q))
 
 -- a decision bears its number
-decision-number : (n : ℕ) (o : Option Outcome) (flag : Bool) (size : ℕ) → decision n o flag size .refusal .number ≡ n
+pub decision-number : (n : ℕ) (o : Option Outcome) (flag : Bool) (size : ℕ) → decision n o flag size .refusal .number ≡ n
 unfolding decision decided refusedBy
 decision-number n none flag size = row-number n
 decision-number n (some o) flag size =

@@ -3,3 +3,4 @@ pub mod Reply
 pub mod Server
 pub mod Client
 pub mod Steps
+pub mod Agreement

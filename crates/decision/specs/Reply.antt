@@ -27,3 +27,7 @@ replyOf c flag ems = blockOf (replyList c flag ems)
 -- 'Our client always offers RI (empty at first, later the saved client verify_data) and EMS, nothing else, no signal.'
 unfoldable pub offerOf : Connection → List Extension
 offerOf c = riHolding (pick (later c) (c .client) []) ∷ emsExtension ∷ []
+
+-- the same in the other order, which document 01 leaves open
+unfoldable pub offerTurned : Connection → List Extension
+offerTurned c = emsExtension ∷ riHolding (pick (later c) (c .client) []) ∷ []

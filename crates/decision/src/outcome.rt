@@ -7,7 +7,7 @@ ghost use mathlib.Core.Path.{_≡_};
 ghost use Rattle.seqs.specs.Flag.{bit};
 ghost use Rattle.seqs.specs.Pick.{pick};
 ghost use Rattle.refusal.specs.Table.{refusalOf};
-ghost use Rattle.decision.specs.Connection.{forbidden, withEms};
+ghost use Rattle.decision.specs.Connection.{allowed, legacyResumption, resumedLegacy, forbidden, withEms};
 ghost use Rattle.decision.specs.Server.{serverOutcome};
 ghost use Rattle.decision.specs.Client.{resumption, fullness};
 ghost use Rattle.decision.specs.Steps.{sessionOf, outcomeIn, decidedIn, refusing};
@@ -39,10 +39,7 @@ pub(crate) fn server_outcome(
         if ems {
             return Reached::FullEms;
         }
-        if switches.legacy_resumption != 0 {
-            return Reached::ResumedLegacy;
-        }
-        return Reached::Forbidden;
+        return legacy_resumption(switches);
     }
     full(ems, switches)
 }
@@ -73,6 +70,12 @@ fn resumed(session_ems: bool, ems: bool, switches: Switches) -> Reached
     if ems {
         return Reached::Forbidden;
     }
+    legacy_resumption(switches)
+}
+
+fn legacy_resumption(switches: Switches) -> Reached
+    ensures { λ r. ⌜ outcomeIn r ≡ allowed (legacyResumption switches) resumedLegacy ⌝ }
+{
     if switches.legacy_resumption != 0 {
         return Reached::ResumedLegacy;
     }

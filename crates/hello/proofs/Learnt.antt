@@ -19,7 +19,7 @@ use Rattle.message.specs.Frame.{kindOf, bodyOf, overlong, misstated}
 use Rattle.refusal.specs.First.{firstOf}
 use Rattle.refusal.specs.Table.{refusalOf}
 use Rattle.refusal.specs.declared.Refusal.{Refusal}
-use Rattle.hello.specs.Fields.{Hello, Reading, fields, fault, isMalformed, helloNumber, readingOf, clientLayout, serverLayout, clientVersion, serverVersion, readClient, readServer}
+use Rattle.hello.specs.Fields.{Hello, Reading, fields, fault, isMalformed, closing, helloNumber, readingOf, clientLayout, serverLayout, clientVersion, serverVersion, readClient, readServer}
 use Rattle.hello.specs.Places.{part, behind, Points, partOf, bytesPart, listPlace, extensionsAt, clientPlaces, serverPlaces, clientAnswer, serverAnswer}
 use Rattle.hello.specs.Cuts.{wellFormedAt, listAt}
 use Rattle.hello.specs.declared.parts.Part.{Part}
@@ -175,11 +175,11 @@ reading-zero n malformed f e = let z : _≡_ {A = ℕ} 0 1 = cc in absurd (omega
 reading-zero zero (holds g) f e = (refl, cc)
 reading-zero (suc n) (holds g) f e = let z : _≡_ {A = ℕ} 0 1 = cc in absurd (omega arith)
 
-holds-same : {A : Type 0} {x y : A} → holds x ≡ holds y → y ≡ x
+pub holds-same : {A : Type 0} {x y : A} → holds x ≡ holds y → y ≡ x
 holds-same e = cc
 
 -- fields are those of the layout, in a message that is long enough to have a header
-read-layout : (kind : ℕ) (layout : List ℕ → Parse Hello) (wrong : ℕ → Bool) (m : List ℕ) (f : Hello)
+pub read-layout : (kind : ℕ) (layout : List ℕ → Parse Hello) (wrong : ℕ → Bool) (m : List ℕ) (f : Hello)
     → readingOf (helloNumber kind layout wrong m) (layout (bodyOf m)) ≡ fields f → (4 ≤ length m) × (layout (drop 4 m) ≡ holds f)
 unfolding helloNumber firstOf bodyOf
 read-layout kind layout wrong m f e =
@@ -224,33 +224,45 @@ client-parts m f h e =
     let c = closing-at f _ m (39 + o .0 + 2 + v .0 + 1 + w .0) (w .1) (w .4) in
     record { i = o .0; s = v .0; t = w .0; b = c .0; short = o .2; whole = w .1; list = c .1; formed = c .2; is = holds-same (c .3) }
 
-record ServerParts (m : List ℕ) (f : Hello) : Type 0 where
-  i : ℕ
-  b : Bool
-  short : i ≤ 32
-  whole : 39 + i + 3 ≤ length m
-  list : listPlace b (39 + i + 3) ≤ length m
-  formed : wellFormedAt m (listPlace b (39 + i + 3)) ≡ true
-  is : f ≡ record {
-    version = big (take 2 (drop 4 m));
-    random = take 32 (drop 6 m);
-    identifier = take i (drop 39 m);
-    suites = take 2 (drop (39 + i) m);
-    methods = take 1 (drop (39 + i + 2) m);
-    block = b;
-    extensions = listAt m (listPlace b (39 + i + 3));
-  }
+-- of a ServerHello, the fields before the extension block are known by the identifier's length i
+abbrev pub serverFields : List ℕ → ℕ → Bool → List Extension → Hello
+serverFields m i b es =
+    record {
+      version = big (take 2 (drop 4 m));
+      random = take 32 (drop 6 m);
+      identifier = take i (drop 39 m);
+      suites = take 2 (drop (39 + i) m);
+      methods = take 1 (drop (39 + i + 2) m);
+      block = b;
+      extensions = es;
+    }
 
-server-parts : (m : List ℕ) (f : Hello) → 4 ≤ length m → serverLayout (drop 4 m) ≡ holds f → ServerParts m f
+pub record ServerFront (m : List ℕ) (f : Hello) : Type 0 where
+  pub i : ℕ
+  pub short : i ≤ 32
+  pub whole : 39 + i + 3 ≤ length m
+  pub tail : closing (drop (39 + i + 3) m) (λ b es. holds (serverFields m i b es)) ≡ holds f
+
+pub server-front : (m : List ℕ) (f : Hello) → 4 ≤ length m → serverLayout (drop 4 m) ≡ holds f → ServerFront m f
 unfolding serverLayout
-server-parts m f h e =
+server-front m f h e =
     let o = opening-at f _ m h e in
     let v = field-at f _ 2 (drop (39 + o .0) m) (o .3) in
     let w = field-at f _ 1 (drop (39 + o .0 + 2) m) (rw drop-drop at (v .1)) in
     let n : 39 + o .0 + 2 + 1 ≡ 39 + o .0 + 3 = omega arith in
     let l : 39 + o .0 + 3 ≤ length m = omega (arith, length-drop (39 + o .0) m, length-drop (39 + o .0 + 2) m, v .0, w .0) in
-    let c = closing-at f _ m (39 + o .0 + 3) l (rw (drop-drop, n) at (w .1)) in
-    record { i = o .0; b = c .0; short = o .2; whole = l; list = c .1; formed = c .2; is = holds-same (c .3) }
+    record { i = o .0; short = o .2; whole = l; tail = rw (drop-drop, n) at (w .1) }
+
+pub record ServerParts (m : List ℕ) (f : Hello) (p : ServerFront m f) : Type 0 where
+  pub b : Bool
+  pub list : listPlace b (39 + p .i + 3) ≤ length m
+  pub formed : wellFormedAt m (listPlace b (39 + p .i + 3)) ≡ true
+  pub is : f ≡ serverFields m (p .i) b (listAt m (listPlace b (39 + p .i + 3)))
+
+pub server-parts : (m : List ℕ) (f : Hello) (p : ServerFront m f) → ServerParts m f p
+server-parts m f p =
+    let c = closing-at f _ m (39 + p .i + 3) (p .whole) (p .tail) in
+    record { b = c .0; list = c .1; formed = c .2; is = holds-same (c .3) }
 
 -- the places of the fields that were laid out
 client-fields : (m : List ℕ) (h : ClientHello) (f : Hello) → readClient m ≡ fields f → h ≡ clientPlaces f → ClientLearnt m h
@@ -278,17 +290,18 @@ server-fields : (m : List ℕ) (h : ServerHello) (f : Hello) → readServer m �
 unfolding readServer serverPlaces extensionsAt
 server-fields m h f e q =
     let r = read-layout 2 serverLayout serverVersion m f e in
-    let p = server-parts m f (r .0) (r .1) in
-    let l : length (take (p .i) (drop 39 m)) ≡ p .i = size-of m 39 (p .i) (omega (arith, p .whole)) in
+    let g = server-front m f (r .0) (r .1) in
+    let p = server-parts m f g in
+    let l : length (take (g .i) (drop 39 m)) ≡ g .i = size-of m 39 (g .i) (omega (arith, g .whole)) in
     record {
       hello = f;
       reading = e;
       places = q;
-      random = rw (q, p .is) (record { within = omega (arith, p .whole); is = refl });
-      identifier = rw (q, p .is) (points-at m 39 (p .i) (omega (arith, p .whole)));
-      bounded = rw (q, p .is, l) (ri-bounded m (listPlace (p .b) (39 + p .i + 3)) (p .list) (p .formed));
-      indication = rw (q, p .is, l) (λ bytes x. ri-points m (listPlace (p .b) (39 + p .i + 3)) bytes (p .list) (p .formed) x);
-      short = rw (p .is, l) (p .short);
+      random = rw (q, p .is) (record { within = omega (arith, g .whole); is = refl });
+      identifier = rw (q, p .is) (points-at m 39 (g .i) (omega (arith, g .whole)));
+      bounded = rw (q, p .is, l) (ri-bounded m (listPlace (p .b) (39 + g .i + 3)) (p .list) (p .formed));
+      indication = rw (q, p .is, l) (λ bytes x. ri-points m (listPlace (p .b) (39 + g .i + 3)) bytes (p .list) (p .formed) x);
+      short = rw (p .is, l) (g .short);
     }
 
 -- from the answer of the reader

@@ -7,3 +7,4 @@ pub mod Answers
 pub mod Inversions
 pub mod Learnt
 pub mod Cases
+pub mod Reread

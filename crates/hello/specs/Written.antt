@@ -1,9 +1,13 @@
 -- A list of extensions as bytes: the layout the other way round.
 -- Assumes nothing.
+use mathlib.Core.Path.{_≡_}
+use mathlib.Core.Bool.{true}
 use mathlib.Core.List.{List, [], _∷_, _++_}
-use Prim.Native.Nat.{ℕ, _/_, _%_}
-use lib.ListN.{length}
-use Rattle.hello.specs.Extensions.{Extension, riKind, emsKind}
+use Prim.Native.Nat.{ℕ, _+_, _/_, _%_}
+use lib.ListN.{length, drop}
+use Rattle.hello.specs.Extensions.{Extension, riKind, emsKind, shaped}
+use Rattle.hello.specs.Fields.{Hello}
+use Rattle.hello.specs.Places.{behind, identifierPart}
 
 -- a number in two bytes
 abbrev pub twoBytes : ℕ → List ℕ
@@ -24,3 +28,12 @@ riHolding bytes = record { kind = riKind; content = length bytes ∷ bytes }
 -- extended_master_secret
 abbrev pub emsExtension : Extension
 emsExtension = record { kind = emsKind; content = [] }
+
+-- every extension has its shape
+abbrev pub Shaped : List Extension → Type 0
+Shaped [] = Unit {0}
+Shaped (e ∷ es) = (shaped (e .kind) (e .content) ≡ true) × Shaped es
+
+-- the bytes of a ServerHello m, read as h, that stand behind its compression method: its extension block, if it has one
+abbrev pub behindMethod : List ℕ → Hello → List ℕ
+behindMethod m h = drop (behind (identifierPart h) + 3) m
