@@ -1,6 +1,6 @@
 //! The handshake part of the axle gateway, for Rust: safe functions over the proved library's C face.
 //!
-//! Nothing here allocates or keeps state behind the caller's back. A state ([`Hash`], [`Table`], [`Log`], [`Connection`]) is a plain value that the caller
+//! Nothing here allocates or keeps state behind the caller's back. A state ([`struct@Hash`], [`Table`], [`Log`], [`Connection`]) is a plain value that the caller
 //! owns; a refused call leaves it as it was. Every call takes any bytes and ends; what each answers is proved against
 //! definitions taken from the papers (`docs/ACCEPTANCE.md` of the repository).
 
