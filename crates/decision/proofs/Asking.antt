@@ -14,7 +14,8 @@ use Rattle.hello.specs.Places.{Points, clientPlaces, serverPlaces, extensionsAt
 use Rattle.hello.specs.declared.parts.Part.{Part}
 use Rattle.hello.specs.declared.client.ClientHello.{ClientHello}
 use Rattle.hello.specs.declared.server.ServerHello.{ServerHello}
-use Rattle.hello.proofs.Learnt.{ri-none, ri-some, client-learnt, server-learnt}
+use Rattle.hello.proofs.Found.{ri-none, ri-some}
+use Rattle.hello.proofs.Learnt.{client-learnt, server-learnt}
 use Rattle.decision.specs.Server.{asked}
 use Rattle.decision.specs.Client.{told}
 use Rattle.decision.specs.Steps.{riOf, askedOf, toldOf, ClientWas, ServerWas}

@@ -5,6 +5,8 @@ pub mod Closings
 pub mod Hellos
 pub mod Answers
 pub mod Inversions
+pub mod Found
+pub mod Laid
 pub mod Learnt
 pub mod Cases
 pub mod Reread

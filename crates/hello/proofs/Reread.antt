@@ -17,7 +17,7 @@ use Rattle.hello.specs.Fields.{Hello, fields, listed, closing, serverLay
 use Rattle.hello.specs.Written.{twoBytes, writtenList, writtenBlock, Shaped, behindMethod}
 use Rattle.hello.proofs.Vectors.{field-yes}
 use Rattle.hello.proofs.Lists.{fuel, size-of}
-use Rattle.hello.proofs.Learnt.{read-layout, holds-same, serverFields, server-front, server-parts}
+use Rattle.hello.proofs.Laid.{read-layout, holds-same, serverFields, server-front, server-parts}
 
 two-back : (n : ℕ) → big (twoBytes n) ≡ n
 unfolding big

@@ -1,0 +1,117 @@
+-- Bytes that fit a hello's layout: which bytes of the message each field is.
+-- Assumes nothing.
+use mathlib.Core.Path.{_≡_, refl}
+use mathlib.Core.Bool.{Bool, true, false}
+use mathlib.Core.List.{List}
+use Prim.Native.Nat.{ℕ, zero, suc, _+_, _%_, _≤_}
+use native.Mathlib.Omega.{arith}
+use lib.Dec.{eqb}
+use lib.ListN.{length, take, drop, length-drop}
+use lib.Seq.{drop-drop}
+use Rattle.seqs.specs.Pick.{pick}
+use Rattle.seqs.specs.Cases.{by-test}
+use Rattle.hello.specs.Layout.{Parse, malformed, holds, big}
+use Rattle.hello.specs.Extensions.{Extension}
+use Rattle.message.specs.Frame.{bodyOf, overlong, misstated}
+use Rattle.refusal.specs.First.{firstOf}
+use Rattle.hello.specs.Fields.{Hello, fields, closing, helloNumber, readingOf, clientLayout, serverLayout}
+use Rattle.hello.specs.Places.{listPlace}
+use Rattle.hello.specs.Cuts.{wellFormedAt, listAt}
+use Rattle.hello.specs.declared.client.ClientRead.the-variants as client
+use Rattle.hello.specs.declared.server.ServerRead.the-variants as server
+use Rattle.message.proofs.Frames.{stated-long}
+use Rattle.hello.proofs.Inversions.{no-holds, field-at, vector-at, opening-at, closing-at}
+
+reading-zero : (n : ℕ) (p : Parse Hello) (f : Hello) → readingOf n p ≡ fields f → (n ≡ 0) × (p ≡ holds f)
+reading-zero n malformed f e = let z : _≡_ {A = ℕ} 0 1 = cc in absurd (omega arith)
+reading-zero zero (holds g) f e = (refl, cc)
+reading-zero (suc n) (holds g) f e = let z : _≡_ {A = ℕ} 0 1 = cc in absurd (omega arith)
+
+pub holds-same : {A : Type 0} {x y : A} → holds x ≡ holds y → y ≡ x
+holds-same e = cc
+
+-- fields are those of the layout, in a message that is long enough to have a header
+pub read-layout : (kind : ℕ) (layout : List ℕ → Parse Hello) (wrong : ℕ → Bool) (m : List ℕ) (f : Hello)
+    → readingOf (helloNumber kind layout wrong m) (layout (bodyOf m)) ≡ fields f → (4 ≤ length m) × (layout (drop 4 m) ≡ holds f)
+unfolding helloNumber firstOf bodyOf
+read-layout kind layout wrong m f e =
+    let r = reading-zero (helloNumber kind layout wrong m) (layout (bodyOf m)) f e in
+    by-test (overlong m)
+    (λ p. let z : _≡_ {A = ℕ} 10 0 = rw p at (r .0) in absurd (omega arith))
+    (λ p.
+    by-test (misstated m)
+    (λ q. let z : _≡_ {A = ℕ} 1 0 = rw (p, q) at (r .0) in absurd (omega arith))
+    (λ q. (stated-long m q, r .1)))
+
+pick-holds : {A : Type 0} (b : Bool) (x : Parse A) (y : A) → pick b x malformed ≡ holds y → x ≡ holds y
+pick-holds true x y e = e
+pick-holds false x y e = no-holds refl e
+
+-- a hello that was laid out, with its parts
+pub record ClientParts (m : List ℕ) (f : Hello) : Type 0 where
+  pub i : ℕ
+  pub s : ℕ
+  pub t : ℕ
+  pub b : Bool
+  pub short : i ≤ 32
+  pub whole : 39 + i + 2 + s + 1 + t ≤ length m
+  pub list : listPlace b (39 + i + 2 + s + 1 + t) ≤ length m
+  pub formed : wellFormedAt m (listPlace b (39 + i + 2 + s + 1 + t)) ≡ true
+  pub is : f ≡ record {
+    version = big (take 2 (drop 4 m));
+    random = take 32 (drop 6 m);
+    identifier = take i (drop 39 m);
+    suites = take s (drop (39 + i + 2) m);
+    methods = take t (drop (39 + i + 2 + s + 1) m);
+    block = b;
+    extensions = listAt m (listPlace b (39 + i + 2 + s + 1 + t));
+  }
+
+pub client-parts : (m : List ℕ) (f : Hello) → 4 ≤ length m → clientLayout (drop 4 m) ≡ holds f → ClientParts m f
+unfolding clientLayout
+client-parts m f h e =
+    let o = opening-at f _ m h e in
+    let v = vector-at f _ 2 2 65534 m (39 + o .0) (o .1) (o .3) in
+    let w = vector-at f _ 1 1 255 m (39 + o .0 + 2 + v .0) (v .1) (pick-holds (eqb (length (take (v .0) (drop (39 + o .0 + 2) m)) % 2) 0) _ f (v .4)) in
+    let c = closing-at f _ m (39 + o .0 + 2 + v .0 + 1 + w .0) (w .1) (w .4) in
+    record { i = o .0; s = v .0; t = w .0; b = c .0; short = o .2; whole = w .1; list = c .1; formed = c .2; is = holds-same (c .3) }
+
+-- of a ServerHello, the fields before the extension block are known by the identifier's length i
+abbrev pub serverFields : List ℕ → ℕ → Bool → List Extension → Hello
+serverFields m i b es =
+    record {
+      version = big (take 2 (drop 4 m));
+      random = take 32 (drop 6 m);
+      identifier = take i (drop 39 m);
+      suites = take 2 (drop (39 + i) m);
+      methods = take 1 (drop (39 + i + 2) m);
+      block = b;
+      extensions = es;
+    }
+
+pub record ServerFront (m : List ℕ) (f : Hello) : Type 0 where
+  pub i : ℕ
+  pub short : i ≤ 32
+  pub whole : 39 + i + 3 ≤ length m
+  pub tail : closing (drop (39 + i + 3) m) (λ b es. holds (serverFields m i b es)) ≡ holds f
+
+pub server-front : (m : List ℕ) (f : Hello) → 4 ≤ length m → serverLayout (drop 4 m) ≡ holds f → ServerFront m f
+unfolding serverLayout
+server-front m f h e =
+    let o = opening-at f _ m h e in
+    let v = field-at f _ 2 (drop (39 + o .0) m) (o .3) in
+    let w = field-at f _ 1 (drop (39 + o .0 + 2) m) (rw drop-drop at (v .1)) in
+    let n : 39 + o .0 + 2 + 1 ≡ 39 + o .0 + 3 = omega arith in
+    let l : 39 + o .0 + 3 ≤ length m = omega (arith, length-drop (39 + o .0) m, length-drop (39 + o .0 + 2) m, v .0, w .0) in
+    record { i = o .0; short = o .2; whole = l; tail = rw (drop-drop, n) at (w .1) }
+
+pub record ServerParts (m : List ℕ) (f : Hello) (p : ServerFront m f) : Type 0 where
+  pub b : Bool
+  pub list : listPlace b (39 + p .i + 3) ≤ length m
+  pub formed : wellFormedAt m (listPlace b (39 + p .i + 3)) ≡ true
+  pub is : f ≡ serverFields m (p .i) b (listAt m (listPlace b (39 + p .i + 3)))
+
+pub server-parts : (m : List ℕ) (f : Hello) (p : ServerFront m f) → ServerParts m f p
+server-parts m f p =
+    let c = closing-at f _ m (39 + p .i + 3) (p .whole) (p .tail) in
+    record { b = c .0; list = c .1; formed = c .2; is = holds-same (c .3) }
