@@ -11,7 +11,7 @@ use lib.Dec.{eqb}
 use lib.ListN.{length}
 use borrow.Author.Tests.{eq-eqb, ne-eqb, eqb-false, le-ltb}
 use Rattle.seqs.specs.Pick.{pick}
-use Rattle.seqs.specs.Flag.{yes, bit}
+use Rattle.seqs.specs.Flag.{yes, yes-bit}
 use Rattle.seqs.specs.Cases.{by-test}
 use Rattle.refusal.specs.First.{firstOf}
 use Rattle.octets.specs.Same.{same}
@@ -29,10 +29,6 @@ use Rattle.decision.specs.declared.connection.Connection.{Connection}
 use Rattle.decision.specs.declared.connection.Switches.{Switches}
 use Rattle.decision.specs.declared.connection.Decision.{Decision}
 use Rattle.decision.proofs.Serving.{decision-number}
-
-yes-bit : (t : Bool) → yes (bit t) ≡ t
-yes-bit true = refl
-yes-bit false = refl
 
 same-self : (l : List ℕ) → same l l ≡ true
 unfolding same

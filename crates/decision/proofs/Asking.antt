@@ -1,12 +1,12 @@
 -- What a decision asks of a hello that was read, from the places of the reader's answer.
 -- Assumes nothing.
-use mathlib.Core.Path.{_≡_, refl, sym, _∙_, ap, ap₂}
-use mathlib.Core.Bool.{Bool, true, false}
+use mathlib.Core.Path.{_≡_, sym, _∙_, ap, ap₂}
+use mathlib.Core.Bool.{Bool}
 use mathlib.Core.List.{List}
 use mathlib.Core.Option.{Option, some}
 use Prim.Native.Nat.{ℕ}
 use lib.ListN.{length, take, drop}
-use Rattle.seqs.specs.Flag.{yes, bit}
+use Rattle.seqs.specs.Flag.{yes, yes-bit}
 use Rattle.seqs.specs.Cases.{by-test}
 use Rattle.hello.specs.Extensions.{Extension, riKind, has, indicationOf, emsOf, othersOf}
 use Rattle.hello.specs.Fields.{readClient, readServer, signalIn}
@@ -19,10 +19,6 @@ use Rattle.hello.proofs.Learnt.{client-learnt, server-learnt}
 use Rattle.decision.specs.Server.{asked}
 use Rattle.decision.specs.Client.{told}
 use Rattle.decision.specs.Steps.{riOf, askedOf, toldOf, ClientWas, ServerWas}
-
-yes-bit : (b : Bool) → yes (bit b) ≡ b
-yes-bit true = refl
-yes-bit false = refl
 
 -- RI as the part of the message that the reader found
 ri-said : (m : List ℕ) (es : List Extension) (p : Part) → ((bytes : List ℕ) → indicationOf es ≡ some bytes → Points m p bytes)

@@ -13,14 +13,11 @@ use Rattle.seqs.specs.Pick.{pick}
 use Rattle.seqs.specs.Flag.{yes}
 use Rattle.refusal.specs.First.{firstOf}
 use Rattle.octets.specs.Same.{same}
+use Rattle.seqs.specs.Cases.{not-not}
 use Rattle.decision.specs.Connection.{closed, required, saying, wrongFirst}
 use Rattle.decision.specs.Steps.{riOf, serverTurn, clientTurn}
 use Rattle.decision.specs.declared.connection.Connection.{Connection}
 use Rattle.decision.specs.declared.connection.Switches.{Switches}
-
-not-not : (b : Bool) → not (not b) ≡ b
-not-not true = refl
-not-not false = refl
 
 pub same-nil : (l : List ℕ) → same l [] ≡ eqb (length l) 0
 unfolding same

@@ -1,7 +1,7 @@
 -- An extension that is found in a list stands where it was found; so do the bytes of the RI.
 -- Assumes nothing.
 use mathlib.Core.Path.{_≡_, refl, sym, _∙_, ap}
-use mathlib.Core.Bool.{Bool, true, false}
+use mathlib.Core.Bool.{true, false}
 use mathlib.Core.List.{List, [], _∷_}
 use mathlib.Core.Option.{Option, none, some}
 use Prim.Native.Nat.{ℕ, zero, suc, _+_, _-_, _≤_}
@@ -10,7 +10,7 @@ use lib.Dec.{leb, eqb}
 use lib.ListN.{length, take, drop}
 use lib.Seq.{drop-drop}
 use borrow.Author.Tests.{leb-true, leb-false, ne-eqb, eqb-true}
-use Rattle.seqs.specs.Cases.{by-test}
+use Rattle.seqs.specs.Cases.{by-test, not-both}
 use Rattle.message.specs.Numbers.{byteAt, pairAt}
 use Rattle.hello.specs.Extensions.{Extension, riKind, shaped, has, contentOf, indicationOf}
 use Rattle.hello.specs.Places.{part, behind, Points, partOf, bytesPart}
@@ -26,21 +26,18 @@ points-at m a n h =
     let l : length (take n (drop a m)) ≡ n = size-of m a n h in
     record { within = omega (arith, l); is = rw l }
 
-never : {P : Type 0} {b : Bool} → b ≡ true → b ≡ false → P
-never p q = let z : _≡_ {A = ℕ} 0 1 = cc in absurd (omega arith)
-
 -- an extension says something exactly where it is there
 content-none : (t : ℕ) (es : List Extension) → has t es ≡ false → contentOf t es ≡ none
 unfolding has contentOf
 content-none t [] h = refl
 content-none t (e ∷ es) h =
     by-test (eqb (e .kind) t)
-    (λ p. never (rw p) h)
+    (λ p. not-both (rw p) h)
     (λ p. rw p (content-none t es (rw p at h)))
 
 content-some : (t : ℕ) (es : List Extension) → has t es ≡ true → (d : List ℕ) × (contentOf t es ≡ some d)
 unfolding has contentOf
-content-some t [] h = never h refl
+content-some t [] h = not-both h refl
 content-some t (e ∷ es) h =
     by-test (eqb (e .kind) t)
     (λ p. (e .content, rw p))
@@ -126,7 +123,7 @@ unfolding has partOf
 nowhere t at [] h = refl
 nowhere t at (e ∷ es) h =
     by-test (eqb (e .kind) t)
-    (λ p. never (rw p) h)
+    (λ p. not-both (rw p) h)
     (λ p. rw p (nowhere t (at + 4 + length (e .content)) es (rw p at h)))
 
 pub ri-bounded : (m : List ℕ) (i : ℕ) → i ≤ length m → wellFormedAt m i ≡ true → behind (bytesPart (partOf riKind i (listAt m i))) ≤ length m

@@ -1,4 +1,4 @@
--- What a caller learns of a hello that was read: its fields, within their bounds, stand at the places of the answer.
+-- What specs/Learnt.antt says a caller learns of a hello that was read.
 -- Assumes nothing.
 use mathlib.Core.Path.{_≡_, refl, _∙_}
 use mathlib.Core.Bool.{Bool, true}
@@ -10,43 +10,26 @@ use lib.Dec.{eqb}
 use lib.ListN.{length, take, drop}
 use Rattle.seqs.specs.Cases.{by-test}
 use Rattle.hello.specs.Layout.{Parse, malformed, holds}
-use Rattle.hello.specs.Extensions.{indicationOf}
 use Rattle.message.specs.Frame.{kindOf, bodyOf, overlong, misstated}
 use Rattle.refusal.specs.First.{firstOf}
 use Rattle.refusal.specs.Table.{refusalOf}
 use Rattle.refusal.specs.declared.Refusal.{Refusal}
 use Rattle.hello.specs.Fields.{Hello, Reading, fields, fault, isMalformed, helloNumber, readingOf, clientLayout, serverLayout, clientVersion, serverVersion, readClient, readServer}
-use Rattle.hello.specs.Places.{behind, Points, listPlace, extensionsAt, clientPlaces, serverPlaces, clientAnswer, serverAnswer}
+use Rattle.hello.specs.Places.{sizeOf, listPlace, extensionsAt, clientPlaces, serverPlaces, clientAnswer, serverAnswer}
+use Rattle.hello.specs.Cuts.{wellFormedAt, listAt}
+use Rattle.hello.specs.Learnt.{ClientLearnt, ServerLearnt}
 use Rattle.hello.specs.declared.client.ClientHello.{ClientHello}
 use Rattle.hello.specs.declared.client.ClientRead.the-variants as client
 use Rattle.hello.specs.declared.server.ServerHello.{ServerHello}
 use Rattle.hello.specs.declared.server.ServerRead.the-variants as server
 use Rattle.hello.proofs.Lists.{size-of}
+use Rattle.hello.proofs.Closings.{list-size}
 use Rattle.hello.proofs.Found.{points-at, ri-points, ri-bounded}
 use Rattle.hello.proofs.Laid.{read-layout, client-parts, server-front, server-parts}
 
--- What a caller learns. The hello is the one of the definition.
-pub record ClientLearnt (m : List ℕ) (h : ClientHello) : Type 0 where
-  pub hello : Hello
-  pub reading : readClient m ≡ fields hello
-  pub places : h ≡ clientPlaces hello
-  pub random : Points m (h .random) (hello .random)
-  pub identifier : Points m (h .identifier) (hello .identifier)
-  pub suites : Points m (h .suites) (hello .suites)
-  pub methods : Points m (h .methods) (hello .methods)
-  pub indication : (bytes : List ℕ) → indicationOf (hello .extensions) ≡ some bytes → Points m (h .extensions .indication) bytes
-  pub bounded : behind (h .extensions .indication) ≤ length m
-  pub short : length (hello .identifier) ≤ 32
-
-pub record ServerLearnt (m : List ℕ) (h : ServerHello) : Type 0 where
-  pub hello : Hello
-  pub reading : readServer m ≡ fields hello
-  pub places : h ≡ serverPlaces hello
-  pub random : Points m (h .random) (hello .random)
-  pub identifier : Points m (h .identifier) (hello .identifier)
-  pub indication : (bytes : List ℕ) → indicationOf (hello .extensions) ≡ some bytes → Points m (h .extensions .indication) bytes
-  pub bounded : behind (h .extensions .indication) ≤ length m
-  pub short : length (hello .identifier) ≤ 32
+-- a list of extensions ends where the message ends
+list-ends : (m : List ℕ) (i : ℕ) → i ≤ length m → wellFormedAt m i ≡ true → i + sizeOf (listAt m i) ≡ length m
+list-ends m i h w = rw (list-size m i h w) (omega arith)
 
 -- the places of the fields that were laid out
 client-fields : (m : List ℕ) (h : ClientHello) (f : Hello) → readClient m ≡ fields f → h ≡ clientPlaces f → ClientLearnt m h
@@ -67,6 +50,7 @@ client-fields m h f e q =
       methods = rw (q, p .is, l, n) (points-at m (39 + p .i + 2 + p .s + 1) (p .t) (p .whole));
       bounded = rw (q, p .is, l, n, k) (ri-bounded m (listPlace (p .b) (39 + p .i + 2 + p .s + 1 + p .t)) (p .list) (p .formed));
       indication = rw (q, p .is, l, n, k) (λ bytes x. ri-points m (listPlace (p .b) (39 + p .i + 2 + p .s + 1 + p .t)) bytes (p .list) (p .formed) x);
+      list = rw (q, p .is, l, n, k) (list-ends m (listPlace (p .b) (39 + p .i + 2 + p .s + 1 + p .t)) (p .list) (p .formed));
       short = rw (p .is, l) (p .short);
     }
 
@@ -85,6 +69,7 @@ server-fields m h f e q =
       identifier = rw (q, p .is) (points-at m 39 (g .i) (omega (arith, g .whole)));
       bounded = rw (q, p .is, l) (ri-bounded m (listPlace (p .b) (39 + g .i + 3)) (p .list) (p .formed));
       indication = rw (q, p .is, l) (λ bytes x. ri-points m (listPlace (p .b) (39 + g .i + 3)) bytes (p .list) (p .formed) x);
+      list = rw (q, p .is, l) (list-ends m (listPlace (p .b) (39 + g .i + 3)) (p .list) (p .formed));
       short = rw (p .is, l) (g .short);
     }
 

@@ -13,6 +13,7 @@ use lib.Seq.{drop-drop, length-take-le}
 use borrow.Author.Tests.{leb-true, leb-false, eq-eqb, ne-eqb, eqb-false}
 use Rattle.seqs.specs.Pick.{pick}
 use Rattle.message.specs.Numbers.{pairAt}
+use Rattle.seqs.specs.Cases.{not-both}
 use Rattle.hello.specs.Layout.{Parse, malformed, holds, big, field, counted}
 use Rattle.hello.specs.Extensions.{Extension, shaped, extension, more, listOf}
 use Rattle.hello.specs.Fields.{isMalformed}
@@ -162,17 +163,14 @@ pub record Step (m : List ℕ) (i t n : ℕ) : Type 0 where
   pub whole : wellFormedAt m (i + 4 + n) ≡ true
   pub list : listAt m i ≡ record { kind = t; content = take n (drop (i + 4) m) } ∷ listAt m (i + 4 + n)
 
-never : {b : Bool} {A : Type 0} → b ≡ true → b ≡ false → A
-never p q = let z : _≡_ {A = Bool} true false = sym p ∙ q in let y : _≡_ {A = ℕ} 0 1 = cc in absurd (omega arith)
-
 pub step : (m : List ℕ) (i t n : ℕ) → i < length m → wellFormedAt m i ≡ true → t ≡ pairAt m i → n ≡ pairAt m (i + 2) → Step m i t n
 unfolding listAt wellFormedAt
 step m i t n h w e f = go₁ (leb 4 (length m - i)) (leb (i + 4 + n) (length m)) (shaped t (take n (drop (i + 4) m))) refl refl refl
   where
     go₁ : (a b c : Bool) → leb 4 (length m - i) ≡ a → leb (i + 4 + n) (length m) ≡ b → shaped t (take n (drop (i + 4) m)) ≡ c → Step m i t n
-    go₁ false b c p q r = never w (whole-short m i h (leb-false _ _ p))
-    go₁ true false c p q r = never w (whole-long m i t n e f (omega (arith, leb-true 4 (length m - i) p)) (leb-false _ _ q))
-    go₁ true true false p q r = never w (whole-bad m i t n e f (omega (arith, leb-true 4 (length m - i) p)) (leb-true _ _ q) r)
+    go₁ false b c p q r = not-both w (whole-short m i h (leb-false _ _ p))
+    go₁ true false c p q r = not-both w (whole-long m i t n e f (omega (arith, leb-true 4 (length m - i) p)) (leb-false _ _ q))
+    go₁ true true false p q r = not-both w (whole-bad m i t n e f (omega (arith, leb-true 4 (length m - i) p)) (leb-true _ _ q) r)
     go₁ true true true p q r =
         let l : i + 4 + n ≤ length m = leb-true _ _ q in
         let x : wellFormedAt m (i + 4 + n) ≡ true = sym (whole-next m i t n e f (omega arith) l r) ∙ w in

@@ -4,3 +4,4 @@ pub mod Fields
 pub mod Places
 pub mod Cuts
 pub mod Written
+pub mod Learnt
