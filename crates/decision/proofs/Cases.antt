@@ -15,17 +15,14 @@ use Rattle.hello.specs.Extensions.{indicationOf, contentOf, has}
 use Rattle.hello.specs.Fields.{Hello, fields, signalIn}
 use Rattle.hello.specs.Written.{writtenBlock, writtenList, emsExtension, riHolding}
 use Rattle.hello.proofs.Cases.{answering, answer, answers}
-use Rattle.decision.specs.Connection.{closed, wrongFirst, fullEms, decision, decided, refusedBy}
+use Rattle.decision.specs.Connection.{freshConnection, closed, wrongFirst, fullEms, decision, decided, refusedBy}
 use Rattle.decision.specs.Reply.{replyList, replyOf, offerOf}
 use Rattle.decision.specs.Server.{serverWrong, serverFlag, serverOutcome, serverReply, serverNumber, serverDecision, sessionIn}
 use Rattle.decision.specs.Agreement.{Exchange}
 use Rattle.decision.specs.declared.connection.Connection.{Connection}
 use Rattle.decision.specs.declared.connection.Switches.{Switches}
 
--- a connection record before any handshake, after one whose flag is clear, and all switches off
-fresh : Connection
-fresh = record { completed = 0; indication = 0; barred = 0; client = replicate 12 0; server = replicate 12 0 }
-
+-- a connection record after a handshake whose flag is clear, and all switches off
 unflagged : Connection
 unflagged = record { completed = 1; indication = 0; barred = 0; client = replicate 12 0; server = replicate 12 0 }
 
@@ -40,8 +37,8 @@ bare : Hello
 bare = record { version = 771; random = []; identifier = []; suites = 0 ∷ 47 ∷ []; methods = 0 ∷ []; block = true; extensions = riHolding [] ∷ [] }
 
 -- session with EMS, hello without: 6
-lost-ems : serverNumber 1 (fields bare) (some true) fresh off (replicate 35 0) ≡ 6
-unfolding bare fresh off serverNumber firstOf badAxle closed serverWrong wrongFirst serverOutcome serverReply signalIn indicationOf contentOf has same
+lost-ems : serverNumber 1 (fields bare) (some true) freshConnection off (replicate 35 0) ≡ 6
+unfolding bare off serverNumber firstOf badAxle closed serverWrong wrongFirst serverOutcome serverReply signalIn indicationOf contentOf has same
 lost-ems = refl
 
 -- session without, hello with: full
@@ -55,8 +52,8 @@ unfolding ours unflagged serverNumber firstOf badAxle closed
 renegotiation-closed = refl
 
 -- a first handshake without an offer: what the reply rule supposes
-exchange : Exchange 1 [] fresh off (fields ours) (replicate 35 0) [] none answering
-unfolding fresh off ours serverNumber serverDecision decision decided refusedBy refusalOf firstOf badAxle closed serverWrong serverFlag wrongFirst serverOutcome serverReply sessionIn replyOf replyList writtenBlock writtenList offerOf signalIn indicationOf contentOf has same
+exchange : Exchange 1 [] freshConnection off (fields ours) (replicate 35 0) [] none answering
+unfolding off ours serverNumber serverDecision decision decided refusedBy refusalOf firstOf badAxle closed serverWrong serverFlag wrongFirst serverOutcome serverReply sessionIn replyOf replyList writtenBlock writtenList offerOf signalIn indicationOf contentOf has same
 exchange =
     record {
       asks = ours;

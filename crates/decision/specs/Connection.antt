@@ -5,6 +5,7 @@ use mathlib.Core.List.{List, []}
 use mathlib.Core.Option.{Option, none, some}
 use Prim.Native.Nat.{ℕ}
 use lib.Dec.{eqb}
+use lib.ListN.{replicate}
 use Rattle.seqs.specs.Pick.{pick}
 use Rattle.seqs.specs.Flag.{yes, bit}
 use Rattle.refusal.specs.Table.{refusalOf}
@@ -15,6 +16,10 @@ use Rattle.decision.specs.declared.connection.Decision.{Decision}
 
 -- ---- 'It holds: a handshake has completed or not, the indication flag, the renegotiation bar, and the client's and server's
 -- 12-byte verify_data.' A later handshake is a renegotiation.
+
+-- 'Fresh: all no, all zero.'
+abbrev pub freshConnection : Connection
+freshConnection = record { completed = 0; indication = 0; barred = 0; client = replicate 12 0; server = replicate 12 0 }
 
 abbrev pub later : Connection → Bool
 later c = yes (c .completed)

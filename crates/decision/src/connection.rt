@@ -1,5 +1,7 @@
 // The connection record, the switches, and what a decision answers. Of a flag 0 is no and everything else is yes.
 use refusal::Refusal;
+ghost use mathlib.Core.Path.{_≡_};
+ghost use Rattle.decision.specs.Connection.{freshConnection};
 
 // What a connection keeps from one handshake to the next. A later handshake on it is a renegotiation.
 #[repr(C)]
@@ -13,6 +15,21 @@ pub struct Connection {
     // verify_data of the last handshake: the client's, the server's
     pub client: [u8; 12],
     pub server: [u8; 12],
+}
+
+impl Connection {
+    // Before any handshake.
+    pub fn fresh() -> Connection
+        ensures { λ r. ⌜ r ≡ freshConnection ⌝ }
+    {
+        Connection {
+            completed: 0,
+            indication: 0,
+            barred: 0,
+            client: [0; 12],
+            server: [0; 12],
+        }
+    }
 }
 
 #[repr(C)]

@@ -1,12 +1,13 @@
 -- Bytes that fit a hello's layout: which bytes of the message each field is.
 -- Assumes nothing.
-use mathlib.Core.Path.{_≡_, refl}
+use mathlib.Core.Path.{_≡_, refl, sym, _∙_, ap}
 use mathlib.Core.Bool.{Bool, true, false}
 use mathlib.Core.List.{List}
 use Prim.Native.Nat.{ℕ, zero, suc, _+_, _%_, _≤_}
 use native.Mathlib.Omega.{arith}
 use lib.Dec.{eqb}
 use lib.ListN.{length, take, drop, length-drop}
+use borrow.Author.Tests.{eqb-true}
 use lib.Seq.{drop-drop}
 use Rattle.seqs.specs.Pick.{pick}
 use Rattle.seqs.specs.Cases.{by-test}
@@ -20,9 +21,10 @@ use Rattle.hello.specs.Cuts.{wellFormedAt, listAt}
 use Rattle.hello.specs.declared.client.ClientRead.the-variants as client
 use Rattle.hello.specs.declared.server.ServerRead.the-variants as server
 use Rattle.message.proofs.Frames.{stated-long}
+use Rattle.hello.proofs.Lists.{size-of}
 use Rattle.hello.proofs.Inversions.{no-holds, field-at, vector-at, opening-at, closing-at}
 
-reading-zero : (n : ℕ) (p : Parse Hello) (f : Hello) → readingOf n p ≡ fields f → (n ≡ 0) × (p ≡ holds f)
+pub reading-zero : (n : ℕ) (p : Parse Hello) (f : Hello) → readingOf n p ≡ fields f → (n ≡ 0) × (p ≡ holds f)
 reading-zero n malformed f e = let z : _≡_ {A = ℕ} 0 1 = cc in absurd (omega arith)
 reading-zero zero (holds g) f e = (refl, cc)
 reading-zero (suc n) (holds g) f e = let z : _≡_ {A = ℕ} 0 1 = cc in absurd (omega arith)
@@ -43,8 +45,8 @@ read-layout kind layout wrong m f e =
     (λ q. let z : _≡_ {A = ℕ} 1 0 = rw (p, q) at (r .0) in absurd (omega arith))
     (λ q. (stated-long m q, r .1)))
 
-pick-holds : {A : Type 0} (b : Bool) (x : Parse A) (y : A) → pick b x malformed ≡ holds y → x ≡ holds y
-pick-holds true x y e = e
+pick-holds : {A : Type 0} (b : Bool) (x : Parse A) (y : A) → pick b x malformed ≡ holds y → (b ≡ true) × (x ≡ holds y)
+pick-holds true x y e = (refl, e)
 pick-holds false x y e = no-holds refl e
 
 -- a hello that was laid out, with its parts
@@ -54,6 +56,11 @@ pub record ClientParts (m : List ℕ) (f : Hello) : Type 0 where
   pub t : ℕ
   pub b : Bool
   pub short : i ≤ 32
+  pub suites-from : 2 ≤ s
+  pub suites-to : s ≤ 65534
+  pub even : s % 2 ≡ 0
+  pub methods-from : 1 ≤ t
+  pub methods-to : t ≤ 255
   pub whole : 39 + i + 2 + s + 1 + t ≤ length m
   pub list : listPlace b (39 + i + 2 + s + 1 + t) ≤ length m
   pub formed : wellFormedAt m (listPlace b (39 + i + 2 + s + 1 + t)) ≡ true
@@ -72,9 +79,26 @@ unfolding clientLayout
 client-parts m f h e =
     let o = opening-at f _ m h e in
     let v = vector-at f _ 2 2 65534 m (39 + o .0) (o .1) (o .3) in
-    let w = vector-at f _ 1 1 255 m (39 + o .0 + 2 + v .0) (v .1) (pick-holds (eqb (length (take (v .0) (drop (39 + o .0 + 2) m)) % 2) 0) _ f (v .4)) in
+    let p = pick-holds (eqb (length (take (v .0) (drop (39 + o .0 + 2) m)) % 2) 0) _ f (v .4) in
+    let n : length (take (v .0) (drop (39 + o .0 + 2) m)) ≡ v .0 = size-of m (39 + o .0 + 2) (v .0) (v .1) in
+    let w = vector-at f _ 1 1 255 m (39 + o .0 + 2 + v .0) (v .1) (p .1) in
     let c = closing-at f _ m (39 + o .0 + 2 + v .0 + 1 + w .0) (w .1) (w .4) in
-    record { i = o .0; s = v .0; t = w .0; b = c .0; short = o .2; whole = w .1; list = c .1; formed = c .2; is = holds-same (c .3) }
+    record {
+      i = o .0;
+      s = v .0;
+      t = w .0;
+      b = c .0;
+      short = o .2;
+      suites-from = v .2;
+      suites-to = v .3;
+      even = ap (λ (k : ℕ). k % 2) (sym n) ∙ eqb-true _ 0 (p .0);
+      methods-from = w .2;
+      methods-to = w .3;
+      whole = w .1;
+      list = c .1;
+      formed = c .2;
+      is = holds-same (c .3);
+    }
 
 -- of a ServerHello, the fields before the extension block are known by the identifier's length i
 abbrev pub serverFields : List ℕ → ℕ → Bool → List Extension → Hello

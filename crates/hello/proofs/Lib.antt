@@ -10,3 +10,4 @@ pub mod Laid
 pub mod Learnt
 pub mod Cases
 pub mod Reread
+pub mod Bounds
