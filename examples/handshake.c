@@ -74,7 +74,7 @@ static AxleLog finished(AxleLog log, const uint8_t *secret)
 /* Both hellos: the server decides and replies, the client decides on the reply; both must see the same. */
 static AxleDecision hellos(AxleLog *log, AxleTable table, const uint8_t *offered, uint8_t length)
 {
-    static const AxleConnection fresh;
+    const AxleConnection fresh = axle_connection_fresh();
     static const uint8_t renewed[4] = {'n', 'e', 'x', 't'};
     uint8_t hello[192], answer[192], reply[64];
     size_t n = client_hello(hello, offered, length);
@@ -96,7 +96,7 @@ int main(void)
 {
     static const uint8_t identifier[4] = {'n', 'e', 'x', 't'};
     AxleTable table = axle_table_fresh();
-    AxleConnection connection = {0};
+    AxleConnection connection = axle_connection_fresh();
     AxleLog log;
     uint8_t bytes[64], secret[48];
 
@@ -114,7 +114,7 @@ int main(void)
     printf("completed: %d, axle %d holds %d\n", connection.completed, AXLE, axle_table_held(stored.table, AXLE).count);
 
     memset(secret, 0, sizeof secret);
-    memset(&connection, 0, sizeof connection);
+    connection = axle_connection_fresh();
     decision = hellos(&log, stored.table, identifier, sizeof identifier);
     done(axle_table_look_up(stored.table, AXLE, identifier, sizeof identifier, secret, sizeof secret).refusal, "the look-up");
     log = finished(finished(log, secret), secret);

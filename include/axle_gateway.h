@@ -221,7 +221,7 @@ AxleCleared axle_table_clear(AxleTable table);
 
 /* ---- Decisions -------------------------------------------------------------------------------------------------- */
 
-/* The connection record. Fresh: all zero. Only axle_complete alters it. */
+/* The connection record. Only axle_complete alters it. */
 typedef struct {
     uint8_t completed;  /* a handshake has completed */
     uint8_t indication; /* secure renegotiation is indicated (RFC 5746) */
@@ -229,6 +229,9 @@ typedef struct {
     uint8_t client[12]; /* the client's verify_data of the last handshake */
     uint8_t server[12]; /* the server's */
 } AxleConnection;
+
+/* A record before any handshake. */
+AxleConnection axle_connection_fresh(void);
 
 typedef struct {
     uint8_t indication_required; /* refuse a first handshake without the renegotiation indication */

@@ -251,6 +251,7 @@ class Decision(c.Structure):
     ]
 
 
+connection_fresh = declare("axle_connection_fresh", Connection)
 decide_server = declare("axle_decide_server", Decision, BYTES, u8, Table, Connection, Switches, LENT)
 decide_client = declare("axle_decide_client", Decision, BYTES, BYTES, u8, BYTES, u8, Connection, Switches)
 complete = declare("axle_complete", Refusal, c.POINTER(Connection), Log, Decision)

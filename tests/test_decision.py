@@ -52,6 +52,10 @@ def client_agrees(message, offered, session, record, switches):
     return made
 
 
+def test_a_fresh_record():
+    assert face.plain(face.connection_fresh()) == face.zeros(face.Connection) == face.plain(face.connection(Connection()))
+
+
 def client_hellos(saved):
     """Signal, RI and EMS in all combinations: (message) for an identifier or none."""
     wrong = bytes([saved[0] ^ 1]) + saved[1:]

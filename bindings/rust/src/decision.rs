@@ -42,7 +42,8 @@ impl Default for Connection {
 impl Connection {
     /// A fresh record: all no, all zero.
     pub fn new() -> Connection {
-        Connection(ffi::Connection { completed: 0, indication: 0, barred: 0, client: [0; 12], server: [0; 12] })
+        // SAFETY: takes nothing and touches no memory.
+        Connection(unsafe { ffi::axle_connection_fresh() })
     }
 
     /// A handshake has completed.

@@ -270,6 +270,7 @@ extern "C" {
     pub fn axle_table_held(table: Table, axle: u8) -> Held;
     pub fn axle_table_clear(table: Table) -> Cleared;
 
+    pub fn axle_connection_fresh() -> Connection;
     pub fn axle_decide_server(
         message: *const u8,
         length: usize,

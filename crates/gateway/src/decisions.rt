@@ -1,7 +1,8 @@
-// The decisions (document 01, 'Server's decision', 'Client's decision').
+// The connection record and the decisions (document 01, 'Connection record', 'Server's decision', 'Client's decision').
 ghost use mathlib.Core.Path.{_≡_};
 ghost use Rattle.seqs.specs.Flag.{yes};
 ghost use Rattle.hello.specs.Fields.{readClient, readServer};
+ghost use Rattle.decision.specs.Connection.{freshConnection};
 ghost use Rattle.decision.specs.Server.{ServerDecides};
 ghost use Rattle.decision.specs.Client.{clientDecision};
 ghost use Rattle.decision.specs.Steps.{lentOf};
@@ -9,6 +10,13 @@ use decision::Connection;
 use decision::Decision;
 use decision::Switches;
 use sessions::Table;
+
+#[no_mangle]
+pub extern "C" fn axle_connection_fresh() -> Connection
+    ensures { λ r. ⌜ r ≡ freshConnection ⌝ }
+{
+    Connection::fresh()
+}
 
 #[no_mangle]
 pub extern "C" fn axle_decide_server(

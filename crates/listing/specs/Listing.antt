@@ -12,8 +12,8 @@ use Rattle.log.specs.History.History.{fresh}
 use Rattle.log.specs.Calls.{acceptNumber, afterAccept}
 use Rattle.hello.specs.Fields.{readClient}
 use Rattle.sessions.specs.Book.{empty}
+use Rattle.decision.specs.Connection.{freshConnection}
 use Rattle.decision.specs.Server.{sessionIn, serverDecision}
-use Rattle.decision.specs.declared.connection.Connection.{Connection}
 use Rattle.decision.specs.declared.connection.Switches.{Switches}
 use Rattle.decision.specs.declared.connection.Decision.{Decision}
 use Rattle.listing.specs.Contents.{goodCase, bodiesOf}
@@ -26,10 +26,7 @@ unfoldable pub kindColumn : List ℕ → Column
 kindColumn [] = Nothing
 kindColumn (kind ∷ rest) = Number kind
 
--- 'Fresh: all no, all zero.'
-abbrev pub freshConnection : Connection
-freshConnection = record { completed = 0; indication = 0; barred = 0; client = replicate 12 0; server = replicate 12 0 }
-
+-- 'all switches off'
 abbrev pub allOff : Switches
 allOff = record { «indication_required» = 0; «legacy_full» = 0; «legacy_resumption» = 0 }
 
