@@ -59,6 +59,18 @@ def test_lengths_of_key_and_message():
             agree(r.randbytes(k), r.randbytes(m))
 
 
+def test_published_vector_of_the_prf():
+    """The test vector of the TLS 1.2 PRF with SHA-256 that went round the IETF's TLS list. The library has no call for any
+    label, so it tests the second program, which the master secrets and the Finished values are compared with."""
+    secret = bytes.fromhex("9bbe436ba940f017b17652849a71db35")
+    seed = bytes.fromhex("a0ba9f936cda311827a6f796ffd5198c")
+    expected = (
+        "e3f229ba727be17b8d122620557cd453c2aab21d07c3d495329b52d4e61edb5a6b301791e90d35c9c9a46b4e14baf9af0fa022f7077def17"
+        "abfd3797c0564bab4fbc91666e9def9b97fce34f796789baa48082d122ee42c5a72e5a5110fff70187347b66"
+    )
+    assert secrets.prf(secret, b"test label", seed, 100).hex() == expected
+
+
 def test_random_hmacs():
     r = random.Random(2)
     for _ in range(1500):
