@@ -1,6 +1,9 @@
+pub mod Bitwise
 pub mod ByteWords
 pub mod Hashing
 pub mod Taking
 pub mod Padded
 pub mod OneShot
-pub mod Schedules
+pub mod Rolling
+pub mod Room
+pub mod Sealing

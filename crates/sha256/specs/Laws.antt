@@ -60,7 +60,7 @@ pub running-bounded : {hash : Hash} {m : List ℕ} → Running hash m → length
 running-bounded h = h .bounded
 
 -- what follows whole blocks depends on the hash value there and on the rest alone
-rest-only : (s : State) (k j : ℕ) (m p : List ℕ) → 64 * k ≤ length m
+pub rest-only : (s : State) (k j : ℕ) (m p : List ℕ) → 64 * k ≤ length m
     → hashed s (k + j) (m ++ p) ≡ hashed (hashed s k m) j (drop (64 * k) m ++ p)
 unfolding hashed
 rest-only s k j m p h =

@@ -2,6 +2,7 @@ pub mod Words
 pub mod Functions
 pub mod Constants
 pub mod Compress
+pub mod Ring
 pub mod Sha256
 pub mod Running
 pub mod Promise

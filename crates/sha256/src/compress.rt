@@ -1,9 +1,12 @@
-// The message schedule, the rounds, and blocks into the hash value.
+// The message schedule, the rounds, and blocks into the hash value. Of the schedule there are sixteen words at a time, which roll
+// forward: before the turn of sixteen rounds that begins with round t they are W(t) to W(t + 15), which is `Ring` of specs/.
 ghost use mathlib.Core.Path.{_≡_};
-ghost use Prim.Native.Nat.{_+_, _-_, _/_, _≤_, _<_};
-ghost use lib.ListN.{length, take, drop, getD};
+ghost use mathlib.Core.List.{List};
+ghost use Prim.Native.Nat.{ℕ, _+_, _-_, _*_, _/_, _≤_, _<_};
+ghost use lib.ListN.{length, take, drop};
 ghost use Rattle.sha256.specs.Constants.{ks, initial};
 ghost use Rattle.sha256.specs.Compress.{schedule, roundOf, rounds, step, output};
+ghost use Rattle.sha256.specs.Ring.{Ring, Rolls};
 ghost use Rattle.sha256.specs.Sha256.{hashed};
 ghost use Rattle.sha256.specs.declared.compress.State.{State};
 use crate::words::add;
@@ -28,103 +31,123 @@ pub struct State {
     pub h: u32,
 }
 
-const K: [u32; 64] = [
-    0x428a2f98,
-    0x71374491,
-    0xb5c0fbcf,
-    0xe9b5dba5,
-    0x3956c25b,
-    0x59f111f1,
-    0x923f82a4,
-    0xab1c5ed5,
-    0xd807aa98,
-    0x12835b01,
-    0x243185be,
-    0x550c7dc3,
-    0x72be5d74,
-    0x80deb1fe,
-    0x9bdc06a7,
-    0xc19bf174,
-    0xe49b69c1,
-    0xefbe4786,
-    0x0fc19dc6,
-    0x240ca1cc,
-    0x2de92c6f,
-    0x4a7484aa,
-    0x5cb0a9dc,
-    0x76f988da,
-    0x983e5152,
-    0xa831c66d,
-    0xb00327c8,
-    0xbf597fc7,
-    0xc6e00bf3,
-    0xd5a79147,
-    0x06ca6351,
-    0x14292967,
-    0x27b70a85,
-    0x2e1b2138,
-    0x4d2c6dfc,
-    0x53380d13,
-    0x650a7354,
-    0x766a0abb,
-    0x81c2c92e,
-    0x92722c85,
-    0xa2bfe8a1,
-    0xa81a664b,
-    0xc24b8b70,
-    0xc76c51a3,
-    0xd192e819,
-    0xd6990624,
-    0xf40e3585,
-    0x106aa070,
-    0x19a4c116,
-    0x1e376c08,
-    0x2748774c,
-    0x34b0bcb5,
-    0x391c0cb3,
-    0x4ed8aa4a,
-    0x5b9cca4f,
-    0x682e6ff3,
-    0x748f82ee,
-    0x78a5636f,
-    0x84c87814,
-    0x8cc70208,
-    0x90befffa,
-    0xa4506ceb,
-    0xbef9a3f7,
-    0xc67178f2,
-];
-
-// The constants, copied out once for all the rounds of a block.
-fn constants() -> [u32; 64]
-    ensures { λ r. ⌜ r ≡ ks ⌝ }
+// The constants of a turn of sixteen rounds. With a literal at every index the compiler reads each where it lies and copies none.
+fn constants(turn: usize) -> [u32; 16]
+    requires { ⌜ turn < 4 ⌝ }
+    ensures { λ r. ⌜ r ≡ take 16 (drop (16 * turn) ks) ⌝ }
 {
-    K
+    match turn {
+        0 => [
+            0x428a2f98,
+            0x71374491,
+            0xb5c0fbcf,
+            0xe9b5dba5,
+            0x3956c25b,
+            0x59f111f1,
+            0x923f82a4,
+            0xab1c5ed5,
+            0xd807aa98,
+            0x12835b01,
+            0x243185be,
+            0x550c7dc3,
+            0x72be5d74,
+            0x80deb1fe,
+            0x9bdc06a7,
+            0xc19bf174,
+        ],
+        1 => [
+            0xe49b69c1,
+            0xefbe4786,
+            0x0fc19dc6,
+            0x240ca1cc,
+            0x2de92c6f,
+            0x4a7484aa,
+            0x5cb0a9dc,
+            0x76f988da,
+            0x983e5152,
+            0xa831c66d,
+            0xb00327c8,
+            0xbf597fc7,
+            0xc6e00bf3,
+            0xd5a79147,
+            0x06ca6351,
+            0x14292967,
+        ],
+        2 => [
+            0x27b70a85,
+            0x2e1b2138,
+            0x4d2c6dfc,
+            0x53380d13,
+            0x650a7354,
+            0x766a0abb,
+            0x81c2c92e,
+            0x92722c85,
+            0xa2bfe8a1,
+            0xa81a664b,
+            0xc24b8b70,
+            0xc76c51a3,
+            0xd192e819,
+            0xd6990624,
+            0xf40e3585,
+            0x106aa070,
+        ],
+        _ => [
+            0x19a4c116,
+            0x1e376c08,
+            0x2748774c,
+            0x34b0bcb5,
+            0x391c0cb3,
+            0x4ed8aa4a,
+            0x5b9cca4f,
+            0x682e6ff3,
+            0x748f82ee,
+            0x78a5636f,
+            0x84c87814,
+            0x8cc70208,
+            0x90befffa,
+            0xa4506ceb,
+            0xbef9a3f7,
+            0xc67178f2,
+        ],
+    }
 }
 
-// The 64 words of the block that starts at index at. The last two stay in locals: the next two are made of them.
-fn expand(b: &[u8], at: usize) -> [u32; 64]
+// The sixteen words of the block that starts at index at.
+fn load(b: &[u8], at: usize) -> [u32; 16]
     requires { ⌜ at + 64 ≤ length (now b) ⌝ }
-    ensures { λ r. ⌜ r ≡ schedule 48 (take 64 (drop at (now (b .entry)))) ⌝ }
+    ensures { λ r. ⌜ r ≡ schedule 0 (take 64 (drop at (now (b .entry)))) ⌝ }
 {
-    let mut w = [0u32; 64];
+    let mut w = [0u32; 16];
     let mut t = 0;
     while t < 16 {
         let i = at + 4 * t;
         w[t] = join(b[i], b[i + 1], b[i + 2], b[i + 3]);
         t += 1;
     }
-    let mut x = w[14];
-    let mut y = w[15];
-    let mut n = 0;
-    while n < 48 {
-        x = next_word(w[n], w[n + 1], w[n + 9], x);
-        w[n + 16] = x;
-        y = next_word(w[n + 1], w[n + 2], w[n + 10], y);
-        w[n + 17] = y;
-        n += 2;
-    }
     w
+}
+
+// The sixteen words that follow. By value and with a literal at every index they need no place of their own on the stack.
+fn rolled(w: [u32; 16]) -> [u32; 16]
+    ensures { λ r. ⌜ Rolls w r ⌝ }
+{
+    let a = next_word(w[0], w[1], w[9], w[14]);
+    let b = next_word(w[1], w[2], w[10], w[15]);
+    let c = next_word(w[2], w[3], w[11], a);
+    let d = next_word(w[3], w[4], w[12], b);
+    let e = next_word(w[4], w[5], w[13], c);
+    let f = next_word(w[5], w[6], w[14], d);
+    let g = next_word(w[6], w[7], w[15], e);
+    let h = next_word(w[7], w[8], a, f);
+    let i = next_word(w[8], w[9], b, g);
+    let j = next_word(w[9], w[10], c, h);
+    let k = next_word(w[10], w[11], d, i);
+    let l = next_word(w[11], w[12], e, j);
+    let m = next_word(w[12], w[13], f, k);
+    let n = next_word(w[13], w[14], g, l);
+    let o = next_word(w[14], w[15], h, m);
+    let p = next_word(w[15], a, i, n);
+    [a, b, c, d, e, f, g, h, i, j, k, l, m, n, o, p]
 }
 
 impl State {
@@ -166,30 +189,44 @@ impl State {
         }
     }
 
-    // Eight rounds bring each of the eight words back to its place: the compiler keeps them in registers and moves none.
-    fn eight_rounds(self, k: &[u32; 64], w: &[u32; 64], t: usize) -> State
-        requires { ⌜ (t + 8 ≤ 64) × (now k ≡ ks) ⌝ }
-        ensures { λ r. ⌜ ((s : State) → self ≡ rounds t s (now (w .entry)) → r ≡ rounds (t + 8) s (now (w .entry))) ⌝ }
+    // Sixteen rounds bring each of the eight words back to its place: the compiler keeps them in registers and moves none.
+    fn sixteen_rounds(self, w: [u32; 16], turn: usize) -> State
+        requires { ⌜ turn < 4 ⌝ }
+        ensures { λ r. ⌜ ((s : State) (block : List ℕ) → Ring w block (16 * turn) → self ≡ rounds (16 * turn) s (schedule 48 block) → r ≡ rounds (16 * turn + 16) s (schedule 48 block)) ⌝ }
     {
-        let r = self.round(k[t], w[t]);
-        let r = r.round(k[t + 1], w[t + 1]);
-        let r = r.round(k[t + 2], w[t + 2]);
-        let r = r.round(k[t + 3], w[t + 3]);
-        let r = r.round(k[t + 4], w[t + 4]);
-        let r = r.round(k[t + 5], w[t + 5]);
-        let r = r.round(k[t + 6], w[t + 6]);
-        r.round(k[t + 7], w[t + 7])
+        let k = constants(turn);
+        let r = self.round(k[0], w[0]);
+        let r = r.round(k[1], w[1]);
+        let r = r.round(k[2], w[2]);
+        let r = r.round(k[3], w[3]);
+        let r = r.round(k[4], w[4]);
+        let r = r.round(k[5], w[5]);
+        let r = r.round(k[6], w[6]);
+        let r = r.round(k[7], w[7]);
+        let r = r.round(k[8], w[8]);
+        let r = r.round(k[9], w[9]);
+        let r = r.round(k[10], w[10]);
+        let r = r.round(k[11], w[11]);
+        let r = r.round(k[12], w[12]);
+        let r = r.round(k[13], w[13]);
+        let r = r.round(k[14], w[14]);
+        r.round(k[15], w[15])
     }
 
-    fn all_rounds(self, w: &[u32; 64]) -> State
-        ensures { λ r. ⌜ r ≡ rounds 64 self (now (w .entry)) ⌝ }
+    // The 64 rounds of the block whose own words are first: four turns, and nothing is rolled behind the last.
+    fn all_rounds(self, first: [u32; 16]) -> State
+        ensures { λ r. ⌜ ((block : List ℕ) → Ring first block 0 → r ≡ rounds 64 self (schedule 48 block)) ⌝ }
     {
-        let k = constants();
+        let mut w = first;
         let mut v = self;
-        let mut t = 0;
-        while t < 64 {
-            v = v.eight_rounds(&k, w, t);
-            t += 8;
+        let mut turn = 0;
+        while turn < 4 {
+            v = v.sixteen_rounds(w, turn);
+            if turn < 3 {
+                let next = rolled(w);
+                w = next;
+            }
+            turn += 1;
         }
         v
     }
@@ -199,8 +236,7 @@ impl State {
         requires { ⌜ at + 64 ≤ length (now b) ⌝ }
         ensures { λ r. ⌜ r ≡ step self (take 64 (drop at (now (b .entry)))) ⌝ }
     {
-        let w = expand(b, at);
-        let v = self.all_rounds(&w);
+        let v = self.all_rounds(load(b, at));
         State {
             a: add(self.a, v.a),
             b: add(self.b, v.b),

@@ -1,11 +1,12 @@
 // A hash that takes its message in pieces. Every value of the struct is harmless; what one stands for is `Running` of specs/.
 ghost use mathlib.Core.Path.{_≡_};
-ghost use mathlib.Core.List.{List, [], _++_};
-ghost use Prim.Native.Nat.{ℕ, _+_, _≤_};
-ghost use lib.ListN.{length, take, drop};
+ghost use mathlib.Core.List.{List, [], _∷_, _++_};
+ghost use Prim.Native.Nat.{ℕ, _+_, _-_, _≤_, _<_};
+ghost use lib.Dec.{ltb};
+ghost use lib.ListN.{length, take, drop, replicate};
 ghost use lib.Seq.{paste};
 ghost use Rattle.seqs.specs.Padding.{inBytes, big};
-ghost use Rattle.sha256.specs.Running.{Running, Holds};
+ghost use Rattle.sha256.specs.Running.{Running, Holds, taken, most};
 ghost use Rattle.sha256.specs.Sha256.{sha256};
 ghost use Rattle.sha256.specs.Promise.{Absorbs, digestedOf};
 use crate::compress::State;
@@ -36,32 +37,43 @@ pub struct Digested {
 const MOST: u64 = 1048576;
 
 // n bytes of b, from index from, at index at of the tail.
-fn filled(t: [u8; 64], at: usize, b: &[u8], from: usize, n: usize) -> [u8; 64]
-    requires { ⌜ (at + n ≤ 64) × (from + n ≤ length (now b)) ⌝ }
-    ensures { λ r. ⌜ r ≡ paste t at (drop from (now (b .entry))) n ⌝ }
+fn fill(tail: &mut [u8; 64], at: usize, b: &[u8], from: usize, n: usize)
+    requires { ⌜ (length (now tail) ≡ 64) × (at + n ≤ 64) × (from + n ≤ length (now b)) ⌝ }
+    ensures { λ _. ⌜ now (tail .exit) ≡ paste (now (tail .entry)) at (drop from (now (b .entry))) n ⌝ }
 {
-    let mut tail = t;
     let mut i = 0;
     while i < n {
         tail[at + i] = b[from + i];
         i += 1;
     }
-    tail
 }
 
-fn big_endian(x: u64) -> [u8; 8]
-    ensures { λ r. ⌜ r ≡ inBytes big 8 x ⌝ }
+// A one bit behind the first at bytes, and zeros to the end of the block.
+fn seal(block: &mut [u8; 64], at: usize)
+    requires { ⌜ (length (now block) ≡ 64) × (at < 64) ⌝ }
+    ensures { λ _. ⌜ now (block .exit) ≡ take at (now (block .entry)) ++ (128 ∷ replicate (63 - at) 0) ⌝ }
 {
-    [
-        (x / 72057594037927936 % 256) as u8,
-        (x / 281474976710656 % 256) as u8,
-        (x / 1099511627776 % 256) as u8,
-        (x / 4294967296 % 256) as u8,
-        (x / 16777216 % 256) as u8,
-        (x / 65536 % 256) as u8,
-        (x / 256 % 256) as u8,
-        (x % 256) as u8,
-    ]
+    block[at] = 128;
+    let mut i = at + 1;
+    while i < 64 {
+        block[i] = 0;
+        i += 1;
+    }
+}
+
+// The length in bits, in the last eight bytes of the block.
+fn put_length(block: &mut [u8; 64], x: u64)
+    requires { ⌜ length (now block) ≡ 64 ⌝ }
+    ensures { λ _. ⌜ now (block .exit) ≡ take 56 (now (block .entry)) ++ inBytes big 8 x ⌝ }
+{
+    block[56] = (x / 72057594037927936 % 256) as u8;
+    block[57] = (x / 281474976710656 % 256) as u8;
+    block[58] = (x / 1099511627776 % 256) as u8;
+    block[59] = (x / 4294967296 % 256) as u8;
+    block[60] = (x / 16777216 % 256) as u8;
+    block[61] = (x / 65536 % 256) as u8;
+    block[62] = (x / 256 % 256) as u8;
+    block[63] = (x % 256) as u8;
 }
 
 impl Hash {
@@ -81,63 +93,56 @@ impl Hash {
         requires { ⌜ self .length + length (now bytes) ≤ 2097152 ⌝ }
         ensures { λ r. ⌜ (r .length ≡ self .length + length (now (bytes .entry))) × ((m : List ℕ) → Holds self m → Holds r (m ++ now (bytes .entry))) ⌝ }
     {
+        let mut next = self;
         let n = bytes.len();
         let at = (self.length % 64) as usize;
-        let length = self.length + n as u64;
-        let state = self.state;
-        let waiting = self.tail;
+        next.length = self.length + n as u64;
         if n < 64 - at {
-            let tail = filled(waiting, at, bytes, 0, n);
-            return Hash {
-                state,
-                tail,
-                length,
-            };
+            fill(&mut next.tail, at, bytes, 0, n);
+            return next;
         }
         let left = (at + n) % 64;
+        let state = self.state;
         if at == 0 {
-            let next = state.blocks(bytes, 0);
-            let tail = filled(waiting, 0, bytes, n - left, left);
-            return Hash {
-                state: next,
-                tail,
-                length,
-            };
+            next.state = state.blocks(bytes, 0);
+            fill(&mut next.tail, 0, bytes, n - left, left);
+            return next;
         }
-        let block = filled(waiting, at, bytes, 0, 64 - at);
-        let first = state.compress(&block, 0);
-        let rest = first.blocks(bytes, 64 - at);
-        let tail = filled(waiting, 0, bytes, n - left, left);
-        Hash {
-            state: rest,
-            tail,
-            length,
-        }
+        fill(&mut next.tail, at, bytes, 0, 64 - at);
+        let first = state.compress(&next.tail, 0);
+        next.state = first.blocks(bytes, 64 - at);
+        fill(&mut next.tail, 0, bytes, n - left, left);
+        next
     }
 
+    // Would n bytes more be too many?
+    fn exceeds(self, n: u64) -> bool
+        ensures { λ r. ⌜ r ≡ ltb most (taken self + n) ⌝ }
+    {
+        if MOST < self.length {
+            return true;
+        }
+        MOST - self.length < n
+    }
+
+    // The answer is laid out first and its hash is made in place, so that there is no second one on the stack.
     pub fn absorb(self, bytes: &[u8]) -> Absorbed
         ensures { λ r. ⌜ Absorbs self (now (bytes .entry)) r ⌝ }
     {
-        if MOST < self.length {
-            let refusal = refusal::refuse(10);
-            return Absorbed {
-                refusal,
-                hash: self,
-            };
-        }
-        if MOST - self.length < bytes.len() as u64 {
-            let refusal = refusal::refuse(10);
-            return Absorbed {
-                refusal,
-                hash: self,
-            };
-        }
-        let hash = self.more(bytes);
         let refusal = refusal::refuse(0);
-        Absorbed { refusal, hash }
+        let mut r = Absorbed {
+            refusal,
+            hash: self,
+        };
+        if self.exceeds(bytes.len() as u64) {
+            r.refusal = refusal::refuse(10);
+            return r;
+        }
+        r.hash = self.more(bytes);
+        r
     }
 
-    // The padding goes in as bytes: a one bit, zeros, and the length in bits.
+    // The padding is laid into the last block, or the last two.
     pub fn digest(self) -> [u8; 32]
         ensures { λ r. ⌜ ((m : List ℕ) → Running self m → r ≡ sha256 m) ⌝ }
     {
@@ -145,12 +150,15 @@ impl Hash {
             return [0; 32];
         }
         let at = (self.length % 64) as usize;
-        let mut bit = [0u8; 64];
-        bit[0] = 128;
-        let end = big_endian(self.length * 8);
-        let padded = self.more(&bit[..(119 - at) % 64 + 1]);
-        let last = padded.more(&end);
-        let state = last.state;
+        let mut block = self.tail;
+        let mut state = self.state;
+        seal(&mut block, at);
+        if 56 <= at {
+            state = state.compress(&block, 0);
+            block = [0; 64];
+        }
+        put_length(&mut block, self.length * 8);
+        state = state.compress(&block, 0);
         state.output()
     }
 }
@@ -159,15 +167,16 @@ impl Hash {
 pub fn sha256(message: &[u8]) -> Digested
     ensures { λ r. ⌜ r ≡ digestedOf (now (message .entry)) ⌝ }
 {
-    let taken = Hash::fresh().absorb(message);
-    let refusal = taken.refusal;
-    if refusal.number == 0 {
-        let hash = taken.hash;
-        let digest = hash.digest();
-        return Digested { refusal, digest };
+    if MOST < message.len() as u64 {
+        let refusal = refusal::refuse(10);
+        return Digested {
+            refusal,
+            digest: [0; 32],
+        };
     }
-    Digested {
-        refusal,
-        digest: [0; 32],
-    }
+    let mut h = Hash::fresh();
+    h = h.more(message);
+    let digest = h.digest();
+    let refusal = refusal::refuse(0);
+    Digested { refusal, digest }
 }

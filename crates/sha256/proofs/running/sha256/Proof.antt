@@ -1,44 +1,52 @@
 -- The hash of a whole message, or the refusal.
 -- Assumes nothing.
-use mathlib.Core.Path.{_≡_, sym, _∙_, ap}
-use Prim.Native.Nat.{_+_, _≤_, _<_}
+use mathlib.Core.Path.{sym, _∙_, ap}
+use Prim.Native.Nat.{_≤_}
 use native.Mathlib.Omega.{arith}
 use lib.ListN.{length}
 use Rattle.refusal.specs.Table.{refusalOf}
-use Rattle.refusal.specs.declared.Refusal.{Refusal}
-use Rattle.sha256.specs.Running.{taken, most}
-use Rattle.sha256.specs.Promise.{absorbNumber}
-use Rattle.sha256.specs.Laws.{taken-length, number-done, number-refused}
+use Rattle.sha256.specs.Running.{most}
+use Rattle.sha256.specs.Laws.{number-over, number-within}
 use Rattle.sha256.proofs.OneShot.{digested, undigested}
 use borrow.Author.Needs.{needs}
 use Rattle.sha256.proofs.running.sha256.Statement.{statement}
 use Rattle.sha256.proofs.running.sha256.Tie as tie
 
+refuse-requires : tie.Need-refuse-requires
+refuse-requires c κs = search needs
+
+returns : tie.Need-returns
+returns c =
+    let m = c .before .before .before .args .message .now in
+    undigested m (c .refuse .result) (c .refuse .ensures ∙ ap refusalOf (sym (number-over 0 (length m) (omega arith)))) (omega arith)
+
 fresh-requires : tie.Need-fresh-requires
 fresh-requires c κs = search needs
 
-absorb-requires : tie.Need-absorb-requires
-absorb-requires c κs = search needs
+more-requires : tie.Need-more-requires
+more-requires c κs = search needs
 
 digest-requires : tie.Need-digest-requires
 digest-requires c κs = search needs
 
-returns : tie.Need-returns
-returns c =
-    let m = c .before .before .before .before .before .before .before .before .args .message .now in
-    let t : taken (c .before .before .before .before .before .before .fresh .result) ≡ 0 = taken-length (c .before .before .before .before .before .before .fresh .ensures) in
-    let e : c .before .before .before .before .before .absorb .result .refusal ≡ refusalOf (absorbNumber 0 (length m)) = rw t at (c .before .before .before .before .before .absorb .ensures .refusal) in
-    let w : 0 + length m ≤ most = number-done 0 (length m) (ap (λ (r : Refusal). r .number) (sym e) ∙ c .before .before .if1 .taken) in
-    digested m (c .before .before .before .before .before .absorb .result .refusal) e (c .digest .result) (omega arith)
-    (c .digest .ensures _ (c .before .before .before .before .before .absorb .ensures .runs _ (c .before .before .before .before .before .before .fresh .ensures) (omega arith)))
+refuse-requires-2 : tie.Need-refuse-requires-2
+refuse-requires-2 c κs = search needs
 
 returns-2 : tie.Need-returns-2
 returns-2 c =
     let m = c .before .before .before .before .before .before .args .message .now in
-    let t : taken (c .before .before .before .before .fresh .result) ≡ 0 = taken-length (c .before .before .before .before .fresh .ensures) in
-    let e : c .before .before .before .absorb .result .refusal ≡ refusalOf (absorbNumber 0 (length m)) = rw t at (c .before .before .before .absorb .ensures .refusal) in
-    let w : most < 0 + length m = number-refused 0 (length m) (λ z. c .if1 .left (ap (λ (r : Refusal). r .number) e ∙ z)) in
-    undigested m (c .before .before .before .absorb .result .refusal) e (omega arith)
+    let w : length m ≤ most = omega arith in
+    digested m (c .refuse2 .result) (c .refuse2 .ensures ∙ ap refusalOf (sym (number-within 0 (length m) (omega arith)))) (c .before .digest .result) w
+    (c .before .digest .ensures m (record { holds = c .before .before .more .ensures .1 _ (c .before .before .before .fresh .ensures .holds); bounded = w }))
 
 pub sha256-spec : {M : Type 1} → statement M
-sha256-spec = tie.close (tie.spec fresh-requires absorb-requires digest-requires returns returns-2)
+sha256-spec =
+    tie.close
+    (tie.spec
+    refuse-requires
+    returns
+    fresh-requires
+    more-requires
+    digest-requires
+    refuse-requires-2
+    returns-2)

@@ -1,13 +1,14 @@
--- `sha256::words::choice` is what its document says, by computation.
+-- `sha256::words::choice` is what its document says, by a law of digits.
 -- Assumes nothing.
-use mathlib.Core.Path.{refl}
+use native.Mathlib.Omega.{arith}
 use Rattle.sha256.specs.Functions.{ch}
+use Rattle.sha256.proofs.Bitwise.{choice}
 use Rattle.sha256.proofs.words.choice.Statement.{statement}
 use Rattle.sha256.proofs.words.choice.Tie as tie
 
 returns : tie.Need-returns
 unfolding ch
-returns c = refl
+returns c = choice 32 (c .args .x) (c .args .y) (c .args .z) (omega arith) (omega arith) (omega arith)
 
 pub choice-spec : {M : Type 1} → statement M
 choice-spec = tie.close (tie.spec returns)

@@ -1,13 +1,14 @@
--- `sha256::words::majority` is what its document says, by computation.
+-- `sha256::words::majority` is what its document says, by a law of digits.
 -- Assumes nothing.
-use mathlib.Core.Path.{refl}
+use native.Mathlib.Omega.{arith}
 use Rattle.sha256.specs.Functions.{maj}
+use Rattle.sha256.proofs.Bitwise.{majority}
 use Rattle.sha256.proofs.words.majority.Statement.{statement}
 use Rattle.sha256.proofs.words.majority.Tie as tie
 
 returns : tie.Need-returns
 unfolding maj
-returns c = refl
+returns c = majority 32 (c .args .x) (c .args .y) (c .args .z) (omega arith) (omega arith) (omega arith)
 
 pub majority-spec : {M : Type 1} → statement M
 majority-spec = tie.close (tie.spec returns)

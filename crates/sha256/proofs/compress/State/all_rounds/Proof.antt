@@ -1,42 +1,58 @@
--- The rounds, eight a turn.
+-- Four turns: before each the ring is W(16 * turn) to W(16 * turn + 15).
 -- Assumes nothing.
-use mathlib.Core.Path.{_≡_, refl}
-use Prim.Native.Nat.{_%_, _≤_, _-_}
-use Rattle.sha256.specs.Compress.{rounds}
+use mathlib.Core.Path.{_≡_, sym, _∙_, ap, subst}
+use mathlib.Core.Logic.{⊎-elim}
+use mathlib.Core.List.{List}
+use Prim.Native.Nat.{ℕ, _+_, _-_, _*_, _≤_}
+use Rattle.sha256.specs.Compress.{schedule, rounds}
+use Rattle.sha256.specs.Ring.{Ring}
+use Rattle.sha256.proofs.Rolling.{rounds-none}
 use native.Mathlib.Omega.{arith}
 use borrow.Author.Needs.{needs}
 use Rattle.sha256.proofs.compress.State.all_rounds.Statement.{statement}
 use Rattle.sha256.proofs.compress.State.all_rounds.Tie as tie
 
 abbrev Inv-loop : tie.InvT-loop
-Inv-loop w k v₀ t₀ v t = (t ≤ 64) × (t % 8 ≡ 0) × (v ≡ rounds t v₀ w)
+Inv-loop w₀ v₀ turn₀ w v turn =
+    (turn ≤ 4) × ((b : List ℕ) → Ring w₀ b 0 → (turn ≤ 3 → Ring w b (16 * turn)) × (v ≡ rounds (16 * turn) v₀ (schedule 48 b)))
 
 abbrev μ-loop : tie.MeasureT-loop
-μ-loop w k v₀ t₀ v t = 64 - t
-
-constants-requires : tie.Need-constants-requires Inv-loop μ-loop
-constants-requires c κs = search needs
+μ-loop w₀ v₀ turn₀ w v turn = 4 - turn
 
 loop-holds : tie.Need-loop-holds Inv-loop μ-loop
-unfolding rounds
-loop-holds c = (omega arith, omega arith, refl)
+loop-holds c = (omega arith, λ b r. (λ h. r, rounds-none _ _))
 
-eight-rounds-requires : tie.Need-eight-rounds-requires Inv-loop μ-loop
-eight-rounds-requires c κs = (omega arith, c .before .before .before .constants .ensures)
+sixteen-rounds-requires : tie.Need-sixteen-rounds-requires Inv-loop μ-loop
+sixteen-rounds-requires c κs = search needs
 
-add-t : tie.Need-add-t Inv-loop μ-loop
-add-t c = omega arith
+rolled-requires : tie.Need-rolled-requires Inv-loop μ-loop
+rolled-requires c κs = search needs
+
+add-turn : tie.Need-add-turn Inv-loop μ-loop
+add-turn c = omega arith
 
 loop-less : tie.Need-loop-less Inv-loop μ-loop
 loop-less c = omega arith
 
 loop-again : tie.Need-loop-again Inv-loop μ-loop
-loop-again c = (omega arith, omega arith, c .eight-rounds .ensures _ (c .before .before .before .loop .inv .2))
+loop-again c =
+    let l = c .before .before .before in
+    let n : 16 * l .loop .turn + 16 ≡ 16 * (l .loop .turn + 1) = omega arith in (
+      omega arith,
+      λ b r. (
+        λ h.
+            ⊎-elim
+            (λ x. subst (λ (w : List ℕ). Ring w b (16 * (l .loop .turn + 1))) (sym (x .2)) (subst (λ (i : ℕ). Ring (x .1 .result) b i) n (x .1 .ensures b (16 * l .loop .turn) (omega arith) (l .loop .inv .1 b r .0 (omega arith)))))
+            (λ x. absurd (omega (arith, x .0 .left)))
+            (c .if1 .came),
+        c .before .sixteen-rounds .ensures _ b (l .loop .inv .1 b r .0 (omega arith)) (l .loop .inv .1 b r .1) ∙ ap (λ (i : ℕ). rounds i (l .before .args .self) (schedule 48 b)) n,
+      ),
+    )
 
 returns : tie.Need-returns Inv-loop μ-loop
-returns c =
-    let e : c .before .loop .t ≡ 64 = omega arith in
-    rw e at (c .before .loop .inv .2)
+returns c b r =
+    let e : c .before .loop .turn ≡ 4 = omega arith in
+    c .before .loop .inv .1 b r .1 ∙ ap (λ (i : ℕ). rounds (16 * i) (c .before .before .args .self) (schedule 48 b)) e
 
 pub all-rounds-spec : {M : Type 1} → statement M
 all-rounds-spec =
@@ -44,10 +60,10 @@ all-rounds-spec =
     (tie.spec
     Inv-loop
     μ-loop
-    constants-requires
     loop-holds
-    eight-rounds-requires
-    add-t
+    sixteen-rounds-requires
+    rolled-requires
+    add-turn
     loop-less
     loop-again
     returns)

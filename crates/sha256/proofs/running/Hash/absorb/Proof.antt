@@ -3,6 +3,7 @@
 use mathlib.Core.Path.{refl, sym, _∙_, ap}
 use Prim.Native.Nat.{_+_, _≤_, _<_}
 use native.Mathlib.Omega.{arith}
+use borrow.Author.Tests.{ltb-true, ltb-false}
 use lib.ListN.{length, length-append}
 use Rattle.refusal.specs.Table.{refusalOf}
 use Rattle.sha256.specs.Running.{taken, most}
@@ -14,25 +15,17 @@ use Rattle.sha256.proofs.running.Hash.absorb.Tie as tie
 refuse-requires : tie.Need-refuse-requires
 refuse-requires c κs = search needs
 
-returns : tie.Need-returns
-unfolding taken
-returns c =
-    let a = c .before .before .before .before .args in
-    let w : most < a .self .length + length (a .bytes .now) = omega arith in
-    record {
-      refusal = c .refuse .ensures ∙ ap refusalOf (sym (number-over (a .self .length) (length (a .bytes .now)) w));
-      refused = λ _. refl;
-      runs = λ m h g. absurd (omega (arith, h .holds .taken));
-    }
+exceeds-requires : tie.Need-exceeds-requires
+exceeds-requires c κs = search needs
 
 refuse-requires-2 : tie.Need-refuse-requires-2
 refuse-requires-2 c κs = search needs
 
-returns-2 : tie.Need-returns-2
+returns : tie.Need-returns
 unfolding taken
-returns-2 c =
-    let a = c .before .before .before .before .before .before .args in
-    let w : most < a .self .length + length (a .bytes .now) = omega arith in
+returns c =
+    let a = c .before .before .before .before .before .args in
+    let w : most < a .self .length + length (a .bytes .now) = ltb-true most _ (sym (c .before .before .exceeds .ensures) ∙ c .before .if1 .taken) in
     record {
       refusal = c .refuse2 .ensures ∙ ap refusalOf (sym (number-over (a .self .length) (length (a .bytes .now)) w));
       refused = λ _. refl;
@@ -40,30 +33,24 @@ returns-2 c =
     }
 
 more-requires : tie.Need-more-requires
-more-requires c κs = search needs
-
-refuse-requires-3 : tie.Need-refuse-requires-3
-refuse-requires-3 c κs = search needs
-
-returns-3 : tie.Need-returns-3
 unfolding taken
-returns-3 c =
-    let a = c .before .before .before .before .before .before .before .args in
-    let w : a .self .length + length (a .bytes .now) ≤ most = omega arith in
+more-requires c κs =
+    let a = c .before .before .before .before .args in
+    let w : a .self .length + length (a .bytes .now) ≤ most = ltb-false most _ (sym (c .before .exceeds .ensures) ∙ c .if1 .left) in
+    omega arith
+
+returns-2 : tie.Need-returns-2
+unfolding taken
+returns-2 c =
+    let a = c .before .before .before .before .before .args in
+    let w : a .self .length + length (a .bytes .now) ≤ most = ltb-false most _ (sym (c .before .before .exceeds .ensures) ∙ c .before .if1 .left) in
     record {
-      refusal = c .refuse3 .ensures ∙ ap refusalOf (sym (number-within (a .self .length) (length (a .bytes .now)) w));
+      refusal = c .before .before .before .refuse .ensures ∙ ap refusalOf (sym (number-within (a .self .length) (length (a .bytes .now)) w));
       refused = λ g. absurd (omega arith);
-      runs = λ m h g. record { holds = c .before .more .ensures .1 m (h .holds); bounded = simp length-append (omega arith) };
+      runs = λ m h g. record { holds = c .more .ensures .1 m (h .holds); bounded = simp length-append (omega arith) };
     }
 
 pub absorb-spec : {M : Type 1} → statement M
 absorb-spec =
     tie.close
-    (tie.spec
-    refuse-requires
-    returns
-    refuse-requires-2
-    returns-2
-    more-requires
-    refuse-requires-3
-    returns-3)
+    (tie.spec refuse-requires exceeds-requires refuse-requires-2 returns more-requires returns-2)

@@ -1,55 +1,84 @@
--- The message with its padding is taken whole: what is left in the state is the hash value.
+-- The padding goes into the last block or the last two: what is left in the state is the hash value.
 -- Assumes nothing.
-use mathlib.Core.Path.{_≡_, sym, _∙_, ap}
-use Prim.Native.Nat.{_+_, _-_, _%_}
+use mathlib.Core.Path.{_≡_, sym, _∙_, ap, ap₂}
+use mathlib.Core.Logic.{⊎-elim}
+use mathlib.Core.List.{List, _++_}
+use Prim.Native.Nat.{ℕ, _+_, _*_, _/_, _%_}
 use native.Mathlib.Omega.{arith}
-use lib.ListN.{length, take}
-use lib.Seq.{length-take-le}
-use Rattle.sha256.specs.Compress.{output}
-use Rattle.sha256.specs.Sha256.{sha256}
-use Rattle.sha256.proofs.Padded.{one-bit, padded-with, finished}
+use lib.ListN.{length, take, length-append}
+use lib.Seq.{take-all, length-take-le}
+use Rattle.seqs.specs.Padding.{inBytes, big, length-inBytes}
+use Rattle.sha256.specs.Constants.{initial}
+use Rattle.sha256.specs.Compress.{step, output}
+use Rattle.sha256.specs.Sha256.{padded, hashed, sha256}
+use Rattle.sha256.specs.Running.{Holds}
+use Rattle.sha256.specs.declared.compress.State.{State}
+use Rattle.sha256.proofs.Padded.{block, length-block, finished-one, finished-two}
 use borrow.Author.Needs.{needs}
 use Rattle.sha256.proofs.running.Hash.digest.Statement.{statement}
 use Rattle.sha256.proofs.running.Hash.digest.Tie as tie
 
+-- known at the entry
+tail-long : (c : tie.Start) → length (c .args .self .tail) ≡ 64
+tail-long c = search needs
+
+-- the block that waits, sealed
+sealed-long : (c : tie.After-seal) → length (c .seal .last .0) ≡ 64
+sealed-long c =
+    let s = c .before .before .before .before .before .before .before .args .self in
+    ap length (c .seal .ensures) ∙ length-block (s .tail) (s .length % 64) (tail-long (c .before .before .before .before .before .before .before)) (omega arith)
+
+-- where the two ways meet: the block that the length goes into
+joined-long : (c : tie.Joined2) → length (c .if2 .block) ≡ 64
+joined-long c = ⊎-elim (λ w. ap length (w .3)) (λ w. ap length (w .1) ∙ sealed-long (c .before)) (c .if2 .came)
+
+-- and with the length in it, it is the last block of the padded message
+joined-last : (c : tie.Joined2) (m : List ℕ) → Holds (c .before .before .before .before .before .before .before .before .args .self) m
+    → step (c .if2 .state) (take 56 (c .if2 .block) ++ inBytes big 8 (8 * length m)) ≡ hashed initial (length (padded m) / 64) (padded m)
+joined-last c m h =
+    let s = c .before .before .before .before .before .before .before .before .args .self in
+    let l = inBytes big 8 (8 * length m) in
+    let t = tail-long (c .before .before .before .before .before .before .before .before) in
+    let e : s .length % 64 ≡ h .rest = omega (arith, h .size, h .room, h .taken) in
+    let b : c .before .seal .last .0 ≡ block (s .tail) (h .rest) = c .before .seal .ensures ∙ ap (block (s .tail)) e in
+    ⊎-elim
+    (λ w.
+    ap₂ (λ (x : State) (q : List ℕ). step x (take 56 q ++ l)) (w .4 ∙ w .2 .ensures ∙ ap (step (s .state)) (take-all 64 (c .before .seal .last .0) (omega (arith, sealed-long (c .before))) ∙ b)) (w .3)
+    ∙ sym (finished-two h t (omega (arith, w .0 .taken))))
+    (λ w.
+    ap₂ (λ (x : State) (q : List ℕ). step x (take 56 q ++ l)) (w .2) (w .1 ∙ b)
+    ∙ sym (finished-one h t (omega (arith, w .0 .left))))
+    (c .if2 .came)
+
+-- the last block
+last-long : (c : tie.After-put-length) → length (c .put-length .last .0) ≡ 64
+last-long c =
+    let j = c .before .before .before in
+    ap length (c .put-length .ensures) ∙ length-append (take 56 (j .if2 .block)) _ ∙ ap₂ (λ (x y : ℕ). x + y) (length-take-le 56 (j .if2 .block) (omega (arith, joined-long j))) (length-inBytes big 8 _)
+
 returns : tie.Need-returns
 returns c m h = absurd (omega (arith, h .holds .taken, h .bounded))
 
-array-write-bit : tie.Need-array-write-bit
-array-write-bit c = search needs
+seal-requires : tie.Need-seal-requires
+seal-requires c κs = search needs
 
-mul-big-endian : tie.Need-mul-big-endian
-mul-big-endian c = search needs
+slice-aggregate-compress : tie.Need-slice-aggregate-compress
+slice-aggregate-compress c = sym (sealed-long (c .before .before))
 
-big-endian-requires : tie.Need-big-endian-requires
-big-endian-requires c κs = search needs
+compress-requires : tie.Need-compress-requires
+compress-requires c κs = omega (arith, sealed-long (c .before .before))
 
-sub-bit : tie.Need-sub-bit
-sub-bit c = search needs
+mul-put-length : tie.Need-mul-put-length
+mul-put-length c = search needs
 
-add-bit : tie.Need-add-bit
-add-bit c = search needs
+put-length-requires : tie.Need-put-length-requires
+put-length-requires c κs = joined-long (c .before .before)
 
-array-share-prefix-bit : tie.Need-array-share-prefix-bit
-array-share-prefix-bit c = search needs
+slice-aggregate-compress-2 : tie.Need-slice-aggregate-compress-2
+slice-aggregate-compress-2 c = sym (last-long (c .before))
 
-slice-aggregate-more : tie.Need-slice-aggregate-more
-slice-aggregate-more c = sym (length-take-le ((119 - c .before .before .before .before .before .before .args .self .length % 64) % 64 + 1) one-bit (omega arith))
-
-more-requires : tie.Need-more-requires
-more-requires c κs =
-    let n = c .before .before .before .before .before .before .args .self .length in
-    let l : length (take ((119 - n % 64) % 64 + 1) one-bit) ≡ (119 - n % 64) % 64 + 1 = length-take-le _ one-bit (omega arith) in
-    omega arith
-
-slice-aggregate-more-2 : tie.Need-slice-aggregate-more-2
-slice-aggregate-more-2 c = search needs
-
-more-requires-2 : tie.Need-more-requires-2
-more-requires-2 c κs =
-    let n = c .before .before .before .before .before .before .before .before .args .self .length in
-    let l : length (take ((119 - n % 64) % 64 + 1) one-bit) ≡ (119 - n % 64) % 64 + 1 = length-take-le _ one-bit (omega arith) in
-    omega (arith, c .before .more .ensures .0, c .before .before .before .before .before .before .if1 .left)
+compress-requires-2 : tie.Need-compress-requires-2
+compress-requires-2 c κs = omega (arith, last-long (c .before))
 
 output-requires : tie.Need-output-requires
 output-requires c κs = search needs
@@ -57,27 +86,27 @@ output-requires c κs = search needs
 returns-2 : tie.Need-returns-2
 unfolding sha256
 returns-2 c m h =
-    let s = c .before .before .before .before .before .before .before .before .before .before .before .args .self in
+    let s = c .before .before .before .before .before .before .before .before .before .before .before .before .before .before .args .self in
+    let j = c .before .before .before .before .before .before in
+    let p = c .before .before .before in
+    let n : s .length * 8 ≡ 8 * length m = omega (arith, h .holds .taken) in
     c .output .ensures
     ∙ ap output
-    (finished (c .before .before .more2 .result) m
-    (rw (← padded-with m (s .length) (h .holds .taken), ← c .before .before .before .before .before .before .big-endian .ensures)
-    (c .before .before .more2 .ensures .1 _ (c .before .before .before .before .more .ensures .1 m (h .holds)))))
+    (c .before .compress2 .ensures
+    ∙ ap (step (j .if2 .state)) (take-all 64 (p .put-length .last .0) (omega (arith, last-long p)) ∙ p .put-length .ensures ∙ ap (λ (x : ℕ). take 56 (j .if2 .block) ++ inBytes big 8 x) n)
+    ∙ joined-last j m (h .holds))
 
 pub digest-spec : {M : Type 1} → statement M
 digest-spec =
     tie.close
     (tie.spec
     returns
-    array-write-bit
-    mul-big-endian
-    big-endian-requires
-    sub-bit
-    add-bit
-    array-share-prefix-bit
-    slice-aggregate-more
-    more-requires
-    slice-aggregate-more-2
-    more-requires-2
+    seal-requires
+    slice-aggregate-compress
+    compress-requires
+    mul-put-length
+    put-length-requires
+    slice-aggregate-compress-2
+    compress-requires-2
     output-requires
     returns-2)

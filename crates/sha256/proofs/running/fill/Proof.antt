@@ -3,21 +3,20 @@
 use mathlib.Core.Path.{_≡_}
 use Prim.Native.Nat.{_-_, _≤_, _<_}
 use native.Mathlib.Numerals.{add-one}
-use borrow.Author.Needs.{needs}
 use lib.ListN.{length, drop, length-set, length-drop}
 use lib.Seq.{paste, paste-zero, paste-suc, getD-drop}
 use native.Mathlib.Omega.{arith}
-use Rattle.sha256.proofs.running.filled.Statement.{statement}
-use Rattle.sha256.proofs.running.filled.Tie as tie
+use Rattle.sha256.proofs.running.fill.Statement.{statement}
+use Rattle.sha256.proofs.running.fill.Tie as tie
 
 abbrev Inv-loop : tie.InvT-loop
-Inv-loop at b from n tail₀ i₀ tail i = (i ≤ n) × (length tail ≡ 64) × (tail ≡ paste tail₀ at (drop from b) i)
+Inv-loop tail₀ at b from n i₀ tail i = (i ≤ n) × (length tail ≡ 64) × (tail ≡ paste tail₀ at (drop from b) i)
 
 abbrev μ-loop : tie.MeasureT-loop
-μ-loop at b from n tail₀ i₀ tail i = n - i
+μ-loop tail₀ at b from n i₀ tail i = n - i
 
 loop-holds : tie.Need-loop-holds Inv-loop μ-loop
-loop-holds c = (omega arith, search needs, paste-zero (c .args .t) (c .args .at) (drop (c .args .from) (c .args .b .now)))
+loop-holds c = (omega arith, c .pre .0, paste-zero (c .args .tail .now) (c .args .at) (drop (c .args .from) (c .args .b .now)))
 
 add-tail : tie.Need-add-tail Inv-loop μ-loop
 add-tail c = omega arith
@@ -28,8 +27,8 @@ shared-slice-read-tail c = omega arith
 add-tail-2 : tie.Need-add-tail-2 Inv-loop μ-loop
 add-tail-2 c = omega arith
 
-array-write-tail : tie.Need-array-write-tail Inv-loop μ-loop
-array-write-tail c = omega arith
+element-write-tail : tie.Need-element-write-tail Inv-loop μ-loop
+element-write-tail c = omega arith
 
 add-i : tie.Need-add-i Inv-loop μ-loop
 add-i c = omega arith
@@ -42,9 +41,9 @@ loop-again c =
     let l = c .before .before in
     let a = l .before .args in
     let s = drop (a .from) (a .b .now) in
-    let n : length (a .t) ≡ 64 = search needs in
+    let n : length (a .tail .now) ≡ 64 = l .before .pre .0 in
     let k : l .loop .i < length s = simp length-drop (omega arith) in
-    (omega arith, simp length-set (l .loop .inv .1), rw (add-one, l .loop .inv .2, ← getD-drop) (paste-suc (a .t) (a .at) s (l .loop .i) 0 (omega arith) k))
+    (omega arith, simp length-set (l .loop .inv .1), rw (add-one, l .loop .inv .2, ← getD-drop) (paste-suc (a .tail .now) (a .at) s (l .loop .i) 0 (omega arith) k))
 
 returns : tie.Need-returns Inv-loop μ-loop
 returns c =
@@ -52,8 +51,8 @@ returns c =
     let e : l .loop .i ≡ l .before .args .n = omega arith in
     rw e at (l .loop .inv .2)
 
-pub filled-spec : {M : Type 1} → statement M
-filled-spec =
+pub fill-spec : {M : Type 1} → statement M
+fill-spec =
     tie.close
     (tie.spec
     Inv-loop
@@ -62,7 +61,7 @@ filled-spec =
     add-tail
     shared-slice-read-tail
     add-tail-2
-    array-write-tail
+    element-write-tail
     add-i
     loop-less
     loop-again
