@@ -1,4 +1,5 @@
-/* SHA-256 side by side: this library, BearSSL, OpenSSL, mbedTLS. Prints one line a case: bytes, nanoseconds of each. */
+/* SHA-256 side by side: this library, BearSSL, OpenSSL, mbedTLS, and an earlier build of this library where bench/run has one.
+ * Prints one line a case: bytes, nanoseconds of each. */
 #include "axle_gateway.h"
 #include "clock.h"
 
@@ -30,6 +31,26 @@ static void openssl(void) { SHA256(input, length, digest); }
 
 static void mbedtls(void) { mbedtls_sha256_ret(input, length, digest, 0); }
 
+#ifdef BEFORE
+AxleDigested before_axle_sha256(const uint8_t *message, size_t length);
+
+static void before(void)
+{
+    AxleDigested d = before_axle_sha256(input, length);
+    memcpy(digest, d.digest, 32);
+}
+#endif
+
+static const contestant all[] = {
+    {"this library", ours},
+    {"BearSSL", bearssl},
+    {"OpenSSL", openssl},
+    {"mbedTLS", mbedtls},
+#ifdef BEFORE
+    {"before", before},
+#endif
+};
+
 int main(void)
 {
     static const size_t lengths[] = {64, 1024, 16384};
@@ -39,7 +60,7 @@ int main(void)
         char name[64];
         length = lengths[k];
         snprintf(name, sizeof name, "SHA-256 of %zu B", length);
-        side_by_side(name, (contestant[]){{"this library", ours}, {"BearSSL", bearssl}, {"OpenSSL", openssl}, {"mbedTLS", mbedtls}}, 4);
+        side_by_side(name, all, sizeof all / sizeof *all);
     }
     return 0;
 }

@@ -1,4 +1,4 @@
-/* HMAC-SHA-256 of 64 bytes and the extended master secret, side by side. */
+/* HMAC-SHA-256 of 64 bytes and the extended master secret, side by side, with an earlier build where bench/run has one. */
 #include "axle_gateway.h"
 #include "clock.h"
 
@@ -68,6 +68,43 @@ static void mbedtls_secret(void)
     mbedtls_ssl_tls_prf(MBEDTLS_SSL_TLS_PRF_SHA256, key, sizeof key, "extended master secret", seed, sizeof seed, secret, sizeof secret);
 }
 
+#ifdef BEFORE
+AxleTagged before_axle_hmac(const uint8_t *key, size_t key_length, const uint8_t *message, size_t message_length);
+AxleRefusal before_axle_extended_master_secret(const uint8_t *pre_master, size_t pre_master_length, const uint8_t *session_hash,
+                                               size_t session_hash_length, uint8_t *out, size_t out_length);
+
+static void before_hmac(void)
+{
+    AxleTagged t = before_axle_hmac(key, sizeof key, input, sizeof input);
+    memcpy(tag, t.tag, 32);
+}
+
+static void before_secret(void)
+{
+    before_axle_extended_master_secret(key, sizeof key, seed, sizeof seed, secret, sizeof secret);
+}
+#endif
+
+static const contestant hmacs[] = {
+    {"this library", ours_hmac},
+    {"BearSSL", bearssl_hmac},
+    {"OpenSSL", openssl_hmac},
+    {"mbedTLS", mbedtls_hmac},
+#ifdef BEFORE
+    {"before", before_hmac},
+#endif
+};
+
+static const contestant secrets[] = {
+    {"this library", ours_secret},
+    {"BearSSL", bearssl_secret},
+    {"OpenSSL", openssl_secret},
+    {"mbedTLS", mbedtls_secret},
+#ifdef BEFORE
+    {"before", before_secret},
+#endif
+};
+
 int main(void)
 {
     memset(key, 7, sizeof key);
@@ -79,9 +116,7 @@ int main(void)
     bearssl_secret();
     if (memcmp(first, secret, 48) != 0)
         return 1;
-    side_by_side("HMAC-SHA-256 of 64 B",
-                 (contestant[]){{"this library", ours_hmac}, {"BearSSL", bearssl_hmac}, {"OpenSSL", openssl_hmac}, {"mbedTLS", mbedtls_hmac}}, 4);
-    side_by_side("extended master secret",
-                 (contestant[]){{"this library", ours_secret}, {"BearSSL", bearssl_secret}, {"OpenSSL", openssl_secret}, {"mbedTLS", mbedtls_secret}}, 4);
+    side_by_side("HMAC-SHA-256 of 64 B", hmacs, sizeof hmacs / sizeof *hmacs);
+    side_by_side("extended master secret", secrets, sizeof secrets / sizeof *secrets);
     return 0;
 }

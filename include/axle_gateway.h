@@ -323,6 +323,38 @@ AxleExpected axle_log_expected_finished(AxleLog log, const uint8_t *secret, size
  * on resuming. */
 AxleRefusal axle_complete(AxleConnection *connection, AxleLog log, AxleDecision decision);
 
+/* ---- Stack ------------------------------------------------------------------------------------------------------ */
+
+/* The most bytes of stack that each call writes on x86-64, below the frame of its caller: arguments by value, with what aligns
+ * them, the return address, and everything further down. The gate paints the stack and sees that no call goes deeper. */
+enum {
+    AXLE_STACK_REFUSAL = 8,
+    AXLE_STACK_HASH_FRESH = 8,
+    AXLE_STACK_HASH_ABSORB = 784,
+    AXLE_STACK_HASH_DIGEST = 528,
+    AXLE_STACK_SHA256 = 704,
+    AXLE_STACK_HMAC = 1808,
+    AXLE_STACK_EXTENDED_MASTER_SECRET = 4496,
+    AXLE_STACK_MASTER_SECRET = 4688,
+    AXLE_STACK_READ_CLIENT_HELLO = 800,
+    AXLE_STACK_READ_SERVER_HELLO = 688,
+    AXLE_STACK_TABLE_FRESH = 8,
+    AXLE_STACK_TABLE_STORE = 10824,
+    AXLE_STACK_TABLE_LOOK_UP = 8104,
+    AXLE_STACK_TABLE_WITHDRAW = 8088,
+    AXLE_STACK_TABLE_HELD = 5368,
+    AXLE_STACK_TABLE_CLEAR = 5368,
+    AXLE_STACK_CONNECTION_FRESH = 8,
+    AXLE_STACK_DECIDE_SERVER = 8880,
+    AXLE_STACK_DECIDE_CLIENT = 736,
+    AXLE_STACK_LOG_FRESH = 8,
+    AXLE_STACK_LOG_ACCEPT = 1952,
+    AXLE_STACK_LOG_SESSION_HASH = 224,
+    AXLE_STACK_LOG_CHECK_FINISHED = 4096,
+    AXLE_STACK_LOG_EXPECTED_FINISHED = 3648,
+    AXLE_STACK_COMPLETE = 264
+};
+
 #ifdef __cplusplus
 }
 #endif

@@ -20,11 +20,13 @@ four-bytes : (x : ℕ) → inBytes big 4 x ≡ four x
 unfolding inBytes tab
 four-bytes x = rw div-one
 
--- the length in its eight
-pub eight-bytes : (x : ℕ)
-    → inBytes big 8 x
-    ≡ x / 2 ^ 56 % 256 ∷ x / 2 ^ 48 % 256 ∷ x / 2 ^ 40 % 256 ∷ x / 2 ^ 32 % 256 ∷ x / 2 ^ 24 % 256
+-- and a length in its eight
+abbrev pub eight : ℕ → List ℕ
+eight x =
+    x / 2 ^ 56 % 256 ∷ x / 2 ^ 48 % 256 ∷ x / 2 ^ 40 % 256 ∷ x / 2 ^ 32 % 256 ∷ x / 2 ^ 24 % 256
     ∷ x / 2 ^ 16 % 256 ∷ x / 2 ^ 8 % 256 ∷ x % 256 ∷ []
+
+pub eight-bytes : (x : ℕ) → inBytes big 8 x ≡ eight x
 unfolding inBytes tab
 eight-bytes x = rw div-one
 

@@ -11,7 +11,7 @@ use lib.Seq.{getD-take, getD-drop, getD-at, take-suc, take-all, drop-cons, ext-g
 use Rattle.seqs.specs.Tab.{tab, length-tab}
 use Rattle.sha256.specs.Constants.{ks}
 use Rattle.sha256.specs.Compress.{next, schedule, roundOf, rounds}
-use Rattle.sha256.specs.Ring.{wordOf, Ring, Rolls, Rings, EachRound, RingsExist}
+use Rattle.sha256.specs.Ring.{wordOf, Ring, Rings, EachRound, RingsExist}
 use Rattle.sha256.specs.declared.compress.State.{State}
 
 length-schedule : (n : ℕ) (b : List ℕ) → length (schedule n b) ≡ n + 16

@@ -2,12 +2,12 @@
 -- Assumes nothing.
 use mathlib.Core.Path.{_≡_, sym, _∙_, ap}
 use mathlib.Core.List.{List, [], _∷_, _++_, append-assoc, append-nil}
-use Prim.Native.Nat.{ℕ, _+_, _-_, _/_, _%_, _^_, _<_}
+use Prim.Native.Nat.{ℕ, _+_, _-_, _<_}
 use native.Mathlib.Omega.{arith}
 use lib.ListN.{length, take, replicate, drop-of-length-le, replicate-append-replicate}
 use lib.Seq.{sets, sets-eq}
 use Rattle.seqs.specs.Padding.{inBytes, big}
-use Rattle.sha256.proofs.ByteWords.{eight-bytes}
+use Rattle.sha256.proofs.ByteWords.{eight, eight-bytes}
 
 -- what `seal` leaves of a block in whose first at bytes p waits, when it has come to index i
 abbrev pub sealed : List ℕ → ℕ → ℕ → List ℕ
@@ -21,12 +21,9 @@ sealed-more p at i h =
     ∙ sym (append-assoc p (128 ∷ replicate (i - (at + 1)) 0) (0 ∷ []))
 
 -- eight stores behind the first 56 bytes
-pub length-put : (b : List ℕ) (x : ℕ) → length b ≡ 64
-    → sets b 56 (x / 2 ^ 56 % 256 ∷ x / 2 ^ 48 % 256 ∷ x / 2 ^ 40 % 256 ∷ x / 2 ^ 32 % 256 ∷ x / 2 ^ 24 % 256 ∷ x / 2 ^ 16 % 256 ∷ x / 2 ^ 8 % 256 ∷ x % 256 ∷ [])
-    ≡ take 56 b ++ inBytes big 8 x
+pub length-put : (b : List ℕ) (x : ℕ) → length b ≡ 64 → sets b 56 (eight x) ≡ take 56 b ++ inBytes big 8 x
 length-put b x e =
-    let v = x / 2 ^ 56 % 256 ∷ x / 2 ^ 48 % 256 ∷ x / 2 ^ 40 % 256 ∷ x / 2 ^ 32 % 256 ∷ x / 2 ^ 24 % 256 ∷ x / 2 ^ 16 % 256 ∷ x / 2 ^ 8 % 256 ∷ x % 256 ∷ [] in
-    sets-eq v b 56 (omega arith)
-    ∙ ap (λ (l : List ℕ). take 56 b ++ v ++ l) (drop-of-length-le b {i = 64} (omega arith))
-    ∙ append-nil (take 56 b ++ v)
+    sets-eq (eight x) b 56 (omega arith)
+    ∙ ap (λ (l : List ℕ). take 56 b ++ eight x ++ l) (drop-of-length-le b {i = 64} (omega arith))
+    ∙ append-nil (take 56 b ++ eight x)
     ∙ ap (λ (l : List ℕ). take 56 b ++ l) (sym (eight-bytes x))

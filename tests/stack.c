@@ -1,0 +1,319 @@
+/* How deep each call of the C face writes the stack: a line a call, its name, and the fewest and the most bytes that a case of it
+ * wrote. The cases go every way through a call that leads further down: taken and refused, one block and several, found and not.
+ */
+#include "axle_gateway.h"
+#include "painted.h"
+
+#include <stdio.h>
+#include <stdlib.h>
+#include <string.h>
+
+enum { CALLS = 64, CLIENT_HELLO = 1, SERVER_HELLO = 2, FINISHED = 20 };
+
+static struct {
+    const char *name;
+    size_t least, most;
+} calls[CALLS];
+
+static void must(int holds, const char *what)
+{
+    if (!holds) {
+        fprintf(stderr, "%s is not the case that it should be\n", what);
+        exit(1);
+    }
+}
+
+static void note(const char *name, size_t depth)
+{
+    size_t i = 0;
+    while (i < CALLS && calls[i].name && strcmp(calls[i].name, name))
+        i++;
+    must(i < CALLS, "one call more");
+    if (!calls[i].name || depth < calls[i].least)
+        calls[i].least = depth;
+    if (!calls[i].name || calls[i].most < depth)
+        calls[i].most = depth;
+    calls[i].name = name;
+}
+
+/* One case of a call. */
+#define TRY(call, ...)                              \
+    do {                                            \
+        size_t depth_;                              \
+        PAINTED(depth_, (void)call(__VA_ARGS__));   \
+        note(#call, depth_);                        \
+    } while (0)
+
+/* ---- Calls whose depth is known, to see that the measure is right ----------------------------------------------- */
+
+typedef struct {
+    uint8_t bytes[112];
+} ByValue;
+
+void known_return(void);            /* 8 bytes: the return address */
+void known_thousand(void);          /* and a byte of the first colour 1,000 further down */
+void known_by_value(ByValue value); /* 112 bytes of argument, and the return address */
+__asm__("known_return: ret\n"
+        "known_by_value: ret\n"
+        "known_thousand: sub $1000, %rsp\n movb $0x5a, (%rsp)\n add $1000, %rsp\n ret\n");
+
+static void known(void)
+{
+    ByValue value = {{0}};
+    for (int i = 0; i < 2; i++) { /* again, behind calls with arguments by value */
+        TRY(known_return);
+        TRY(known_thousand);
+        TRY(known_by_value, value);
+        TRY(known_by_value, value);
+    }
+}
+
+/* ---- Inputs ------------------------------------------------------------------------------------------------------ */
+
+static uint8_t bytes[1048577];
+static uint8_t out[64];
+static const uint8_t identifier[32] = {1};
+
+static size_t message(uint8_t *to, uint8_t type, const uint8_t *body, size_t length)
+{
+    to[0] = type;
+    to[1] = 0;
+    to[2] = (uint8_t)(length >> 8);
+    to[3] = (uint8_t)length;
+    memmove(to + 4, body, length);
+    return 4 + length;
+}
+
+/* ---- The calls --------------------------------------------------------------------------------------------------- */
+
+static void hashes(void)
+{
+    static const size_t lengths[] = {0, 1, 53, 54, 55, 56, 63, 64, 65, 128, 1000, 1048576, 1048577};
+    enum { N = sizeof lengths / sizeof *lengths };
+    for (int number = 0; number < 256; number++)
+        TRY(axle_refusal, (uint8_t)number);
+    TRY(axle_hash_fresh);
+    for (size_t i = 0; i < N; i++) {
+        TRY(axle_sha256, bytes, lengths[i]);
+        AxleHash waiting = axle_hash_absorb(axle_hash_fresh(), bytes, lengths[i]).hash;
+        TRY(axle_hash_digest, waiting);
+        for (size_t j = 0; j < N; j++)
+            TRY(axle_hash_absorb, waiting, bytes, lengths[j]);
+    }
+    AxleHash over = {.length = 1048577};
+    TRY(axle_hash_digest, over);
+    TRY(axle_hash_absorb, over, bytes, 1);
+}
+
+static void secrets(void)
+{
+    static const size_t lengths[] = {0, 1, 48, 55, 56, 64, 65, 512, 513, 1000, 65536, 65537};
+    enum { N = sizeof lengths / sizeof *lengths };
+    for (size_t i = 0; i < N; i++) {
+        for (size_t j = 0; j < N; j++)
+            TRY(axle_hmac, bytes, lengths[i], bytes, lengths[j]);
+        TRY(axle_extended_master_secret, bytes, lengths[i], bytes, 32, out, sizeof out);
+        TRY(axle_master_secret, bytes, lengths[i], bytes, 64, out, sizeof out);
+    }
+    TRY(axle_extended_master_secret, bytes, 48, bytes, 31, out, sizeof out);
+    TRY(axle_master_secret, bytes, 48, bytes, 64, out, 47);
+}
+
+/* What stands behind the identifier of a hello, and what reading it answers. */
+typedef struct {
+    uint8_t length, number;
+    uint8_t bytes[48];
+} Tail;
+
+#define ZEROS_12 0, 0, 0, 0, 0, 0, 0, 0, 0, 0, 0, 0
+
+static const Tail client_tails[] = {
+    {6, 0, {0, 2, 0, 60, 1, 0}},                                                          /* no extension block */
+    {10, 0, {0, 4, 0, 60, 0, 255, 1, 0, 0, 0}},                                           /* the signal, an empty block */
+    {17, 0, {0, 2, 0, 60, 1, 0, 0, 9, 255, 1, 0, 1, 0, 0, 23, 0, 0}},                     /* RI and EMS, as our client */
+    {29, 0, {0, 2, 0, 60, 1, 0, 0, 21, 255, 1, 0, 13, 12, ZEROS_12, 0, 23, 0, 0}},        /* RI of a later handshake */
+    {21, 0, {0, 2, 0, 60, 1, 0, 0, 13, 255, 1, 0, 1, 0, 0, 23, 0, 0, 0, 16, 0, 0}},       /* and an unknown type */
+    {21, 2, {0, 2, 0, 60, 1, 0, 0, 13, 255, 1, 0, 1, 0, 0, 23, 0, 0, 0, 23, 0, 0}},       /* a repeat */
+    {13, 1, {0, 2, 0, 60, 1, 0, 0, 5, 0, 23, 0, 1, 0}},                                   /* data in EMS */
+    {3, 1, {0, 1, 0}},                                                                    /* half a suite */
+};
+
+static const Tail server_tails[] = {
+    {3, 0, {0, 60, 0}},                                                                   /* no extension block */
+    {5, 0, {0, 60, 0, 0, 0}},                                                             /* an empty one */
+    {14, 0, {0, 60, 0, 0, 9, 255, 1, 0, 1, 0, 0, 23, 0, 0}},                              /* RI and EMS, as our server */
+    {38, 0, {0, 60, 0, 0, 33, 255, 1, 0, 25, 24, ZEROS_12, ZEROS_12, 0, 23, 0, 0}},       /* RI of a later handshake */
+    {18, 0, {0, 60, 0, 0, 13, 255, 1, 0, 1, 0, 0, 23, 0, 0, 0, 16, 0, 0}},                /* and a type never offered */
+    {13, 2, {0, 60, 0, 0, 8, 0, 23, 0, 0, 0, 23, 0, 0}},                                  /* a repeat */
+    {1, 1, {0}},                                                                          /* half a suite */
+};
+
+enum { CLIENT_TAILS = sizeof client_tails / sizeof *client_tails, SERVER_TAILS = sizeof server_tails / sizeof *server_tails };
+
+/* A hello with an identifier of that length and that tail. */
+static size_t hello(uint8_t *to, uint8_t type, uint8_t offered, Tail tail)
+{
+    uint8_t body[128] = {3, 3};
+    body[34] = offered;
+    memcpy(body + 35, identifier, offered);
+    memcpy(body + 35 + offered, tail.bytes, tail.length);
+    return message(to, type, body, 35 + offered + tail.length);
+}
+
+static void hellos(void)
+{
+    uint8_t read[300];
+    for (size_t i = 0; i < CLIENT_TAILS; i++) {
+        size_t n = hello(read, CLIENT_HELLO, 32, client_tails[i]);
+        must(axle_read_client_hello(read, n).refusal.number == client_tails[i].number, "a ClientHello");
+        TRY(axle_read_client_hello, read, n);
+        TRY(axle_read_server_hello, read, n);
+    }
+    for (size_t i = 0; i < SERVER_TAILS; i++) {
+        size_t n = hello(read, SERVER_HELLO, 32, server_tails[i]);
+        must(axle_read_server_hello(read, n).refusal.number == server_tails[i].number, "a ServerHello");
+        TRY(axle_read_server_hello, read, n);
+        TRY(axle_read_client_hello, read, n);
+    }
+    TRY(axle_read_client_hello, bytes, 16389);
+    TRY(axle_read_server_hello, bytes, 16389);
+}
+
+/* The table with n sessions, spread over the axles. */
+static AxleTable filled(size_t n)
+{
+    AxleTable table = axle_table_fresh();
+    for (size_t i = 0; i < n; i++) {
+        uint8_t name[2] = {(uint8_t)(i / 6), 7};
+        table = axle_table_store(table, (uint8_t)(1 + i % 6), name, 2, 1, bytes, 48).table;
+    }
+    return table;
+}
+
+static void tables(void)
+{
+    static const size_t sizes[] = {0, 1, 31, 32, 40};
+    static const uint8_t held[2] = {0, 7}, none[2] = {99, 7};
+    TRY(axle_table_fresh);
+    for (size_t i = 0; i < sizeof sizes / sizeof *sizes; i++) {
+        AxleTable table = filled(sizes[i]);
+        for (uint8_t axle = 0; axle < 8; axle++) {
+            TRY(axle_table_store, table, axle, held, 2, 1, bytes, 48);
+            TRY(axle_table_store, table, axle, none, 2, 0, bytes, 48);
+            TRY(axle_table_store, table, axle, none, 2, 0, bytes, 47);
+            TRY(axle_table_look_up, table, axle, held, 2, out, sizeof out);
+            TRY(axle_table_look_up, table, axle, held, 2, out, 47);
+            TRY(axle_table_look_up, table, axle, none, 2, out, sizeof out);
+            TRY(axle_table_withdraw, table, axle, held, 2);
+            TRY(axle_table_withdraw, table, axle, none, 2);
+            TRY(axle_table_held, table, axle);
+        }
+        TRY(axle_table_clear, table);
+    }
+}
+
+static void decisions(void)
+{
+    uint8_t read[300];
+    TRY(axle_connection_fresh);
+    for (int bits = 0; bits < 128; bits++) {
+        AxleSwitches switches = {bits & 1, bits >> 1 & 1, bits >> 2 & 1};
+        AxleConnection connection = {.completed = bits >> 3 & 1, .indication = bits >> 4 & 1};
+        uint8_t ems = bits >> 5 & 1, offered = bits >> 6 ? 32 : 0;
+        AxleTable table = axle_table_store(axle_table_fresh(), 1, identifier, 32, ems, bytes, 48).table;
+        for (size_t i = 0; i < CLIENT_TAILS; i++) {
+            size_t n = hello(read, CLIENT_HELLO, offered, client_tails[i]);
+            TRY(axle_decide_server, read, n, 1, table, connection, switches, out, sizeof out);
+            TRY(axle_decide_server, read, n, 2, table, connection, switches, out, 5);
+            TRY(axle_decide_server, read, n, 0, table, connection, switches, out, 5);
+        }
+        for (size_t i = 0; i < SERVER_TAILS; i++) {
+            size_t n = hello(read, SERVER_HELLO, offered, server_tails[i]);
+            TRY(axle_decide_client, read, n, identifier, 32, 1, identifier, 32, ems, connection, switches);
+            TRY(axle_decide_client, read, n, identifier, 0, 0, identifier, 0, ems, connection, switches);
+            TRY(axle_decide_client, read, n, identifier, 32, 0, identifier, 0, ems, connection, switches);
+        }
+    }
+}
+
+/* Every call on a log, with every type of message, short, long and malformed. */
+static void asked(AxleLog log)
+{
+    static uint8_t read[16389];
+    static const size_t lengths[] = {0, 12, 60, 1000, 16384};
+    TRY(axle_log_session_hash, log);
+    TRY(axle_log_expected_finished, log, bytes, 48);
+    TRY(axle_log_expected_finished, log, bytes, 47);
+    AxleExpected expected = axle_log_expected_finished(log, bytes, 48);
+    size_t finished = message(read, FINISHED, expected.value, 12);
+    TRY(axle_log_check_finished, log, bytes, 48, read, finished);
+    AxleLog checked = axle_log_check_finished(log, bytes, 48, read, finished).log;
+    TRY(axle_log_accept, checked, read, finished, 0);
+    for (int type = 0; type < 22; type++)
+        for (size_t i = 0; i < sizeof lengths / sizeof *lengths; i++) {
+            size_t n = message(read, (uint8_t)type, bytes, lengths[i]);
+            TRY(axle_log_accept, log, read, n, 1);
+            TRY(axle_log_accept, log, read, n - 1, 0);
+            TRY(axle_log_check_finished, log, bytes, 48, read, n);
+            TRY(axle_log_check_finished, log, bytes, 47, read, n);
+        }
+    TRY(axle_log_accept, log, read, sizeof read, 0);
+    TRY(axle_log_check_finished, log, bytes, 48, read, sizeof read);
+}
+
+static void completed(AxleLog log, uint8_t resumes)
+{
+    AxleConnection connection = axle_connection_fresh();
+    for (int bits = 0; bits < 4; bits++) {
+        AxleDecision decision = {.refusal = axle_refusal(bits & 1 ? 6 : 0), .resumes = bits & 2 ? resumes : !resumes};
+        TRY(axle_complete, &connection, log, decision);
+    }
+}
+
+/* A handshake of these types, message by message, the bodies of that length. */
+static void handshake(const uint8_t *types, size_t n, size_t length, uint8_t resumes)
+{
+    static uint8_t read[16388];
+    AxleLog log = axle_log_fresh();
+    asked(log);
+    for (size_t i = 0; i < n; i++) {
+        size_t whole = message(read, types[i], bytes, length);
+        if (types[i] == FINISHED) {
+            AxleExpected expected = axle_log_expected_finished(log, bytes, 48);
+            whole = message(read, FINISHED, expected.value, 12);
+            log = axle_log_check_finished(log, bytes, 48, read, whole).log;
+        }
+        AxleAccepted accepted = axle_log_accept(log, read, whole, resumes);
+        must(accepted.refusal.number == AXLE_DONE, "a message in turn");
+        log = accepted.log;
+        asked(log);
+        completed(log, resumes);
+    }
+}
+
+static void logs(void)
+{
+    static const uint8_t full[] = {1, 2, 11, 12, 13, 14, 11, 16, 15, 20, 20}, resumed[] = {1, 2, 20, 20};
+    static const size_t lengths[] = {0, 37, 60, 61, 1000};
+    TRY(axle_log_fresh);
+    for (size_t i = 0; i < sizeof lengths / sizeof *lengths; i++) {
+        handshake(full, sizeof full, lengths[i], 0);
+        handshake(resumed, sizeof resumed, lengths[i], 1);
+    }
+}
+
+int main(void)
+{
+    for (size_t i = 0; i < sizeof bytes; i++)
+        bytes[i] = (uint8_t)(i * 7 + 1);
+    known();
+    hashes();
+    secrets();
+    hellos();
+    tables();
+    decisions();
+    logs();
+    for (size_t i = 0; i < CALLS && calls[i].name; i++)
+        printf("%s %zu %zu\n", calls[i].name, calls[i].least, calls[i].most);
+    return 0;
+}
