@@ -127,7 +127,7 @@ fn load(b: &[u8], at: usize) -> [u32; 16]
     w
 }
 
-// The sixteen words that follow. By value and with a literal at every index they need no place of their own on the stack.
+// The sixteen words that follow. By value and with a literal at every index: the form with the smallest frame.
 fn rolled(w: [u32; 16]) -> [u32; 16]
     ensures { λ r. ⌜ Rolls w r ⌝ }
 {
