@@ -11,7 +11,7 @@ use lib.Seq.{getD-take, getD-drop, getD-at, take-suc, take-all, drop-cons, ext-g
 use Rattle.seqs.specs.Tab.{tab, length-tab}
 use Rattle.sha256.specs.Constants.{ks}
 use Rattle.sha256.specs.Compress.{next, schedule, roundOf, rounds}
-use Rattle.sha256.specs.Ring.{wordOf, Ring, Rings, EachRound, RingsExist}
+use Rattle.sha256.specs.Ring.{wordOf, Ring, Finds, Rings, EachRound, RingsExist}
 use Rattle.sha256.specs.declared.compress.State.{State}
 
 length-schedule : (n : ℕ) (b : List ℕ) → length (schedule n b) ≡ n + 16
@@ -52,7 +52,7 @@ tabbed l (suc n) h = take-suc l n 0 h ∙ ap (λ (p : List ℕ). p ++ (getD l n 
 
 module _ {w b : List ℕ} {t : ℕ} (r : Ring w b t) where
   -- place i of the ring is W(t + i)
-  pub found : (i : ℕ) → i < 16 → getD w i 0 ≡ wordOf b (t + i)
+  found : (i : ℕ) → i < 16 → getD w i 0 ≡ wordOf b (t + i)
   found i h = rw (r .words) (getD-take 16 (drop t (schedule 48 b)) i 0 h ∙ getD-drop t (schedule 48 b) i 0)
 
   -- the ring, word by word
@@ -101,6 +101,11 @@ begins b =
 
 -- ---- every round
 
+pub finds : Finds
+finds w b t h r =
+    let n : 16 * (t / 16) + t % 16 ≡ t = omega arith in
+    found r (t % 16) (omega arith) ∙ ap (wordOf b) n
+
 -- the rings of all four turns stand where their turns begin
 stand : {b : List ℕ} {ring : ℕ → List ℕ} → Rings b ring → (turn : ℕ) → turn < 4 → Ring (ring turn) b (16 * turn)
 stand {b} {ring} r zero h = subst (λ (w : List ℕ). Ring w b 0) (sym (r .first)) (begins b)
@@ -111,9 +116,7 @@ stand {b} {ring} r (suc turn) h =
     (r .others turn (omega arith) b (16 * turn) (omega arith) (stand r turn (omega arith))))
 
 pub each-round : EachRound
-each-round b ring r t h =
-    let n : 16 * (t / 16) + t % 16 ≡ t = omega arith in
-    found (stand r (t / 16) (omega arith)) (t % 16) (omega arith) ∙ ap (wordOf b) n
+each-round b ring r t h = finds (ring (t / 16)) b t h (stand r (t / 16) (omega arith))
 
 -- a ring rolled on by n words
 rolledBy : ℕ → List ℕ → List ℕ
@@ -151,12 +154,17 @@ next-round s ws n = refl
 constant : {k : List ℕ} (t i : ℕ) → i < 16 → k ≡ take 16 (drop t ks) → getD k i 0 ≡ getD ks (t + i) 0
 constant t i h e = ap (λ (l : List ℕ). getD l i 0) e ∙ getD-take 16 (drop t ks) i 0 h ∙ getD-drop t ks i 0
 
--- round t + i finds its word of the schedule at place i of the ring, and its constant at place i of the turn's
-pub round-more : (s : State) {w b k : List ℕ} {t : ℕ} {v v′ : State} (i : ℕ) → i < 16 → Ring w b t → k ≡ take 16 (drop t ks)
-    → v ≡ rounds (t + i) s (schedule 48 b) → v′ ≡ roundOf v (getD k i 0) (getD w i 0) → v′ ≡ rounds (t + (i + 1)) s (schedule 48 b)
-round-more s {b = b} {t = t} i h r e p q =
-    let n : suc (t + i) ≡ t + (i + 1) = omega arith in
-    q ∙ same-round p (constant t i h e) (found r i h) ∙ next-round s (schedule 48 b) (t + i) ∙ ap (λ (x : ℕ). rounds x s (schedule 48 b)) n
+-- round i of a turn finds its word of the schedule at place i of the ring, and its constant at place i of the turn's
+pub round-more : (s : State) (turn i : ℕ) {w b k : List ℕ} {v v′ : State} → turn < 4 → i < 16 → Ring w b (16 * turn) → k ≡ take 16 (drop (16 * turn) ks)
+    → v ≡ rounds (16 * turn + i) s (schedule 48 b) → v′ ≡ roundOf v (getD k i 0) (getD w i 0) → v′ ≡ rounds (16 * turn + (i + 1)) s (schedule 48 b)
+round-more s turn i {w} {b} g h r e p q =
+    let t = 16 * turn + i in
+    let m : (16 * turn + i) / 16 ≡ turn = omega arith in
+    let o : (16 * turn + i) % 16 ≡ i = omega arith in
+    let n : suc (16 * turn + i) ≡ 16 * turn + (i + 1) = omega arith in
+    let f : getD w i 0 ≡ wordOf b t =
+    ap (λ (x : ℕ). getD w x 0) (sym o) ∙ finds w b t (omega arith) (subst (λ (x : ℕ). Ring w b (16 * x)) (sym m) r) in
+    q ∙ same-round p (constant (16 * turn) i h e) f ∙ next-round s (schedule 48 b) t ∙ ap (λ (x : ℕ). rounds x s (schedule 48 b)) n
 
 pub rounds-none : (s : State) (ws : List ℕ) → s ≡ rounds 0 s ws
 unfolding rounds

@@ -3,7 +3,7 @@
 -- Assumes nothing.
 use mathlib.Core.Path.{_≡_}
 use mathlib.Core.List.{List}
-use Prim.Native.Nat.{ℕ, _+_, _/_, _%_, _≤_, _<_}
+use Prim.Native.Nat.{ℕ, _+_, _*_, _/_, _%_, _≤_, _<_}
 use lib.ListN.{take, drop, getD}
 use Rattle.sha256.specs.Compress.{schedule}
 
@@ -15,17 +15,22 @@ wordOf block t = getD (schedule 48 block) t 0
 pub record Ring (w : List ℕ) (block : List ℕ) (t : ℕ) : Type 0 where
   pub words : w ≡ take 16 (drop t (schedule 48 block))
 
+-- 'each round finds its word of FIPS 180-4's schedule there': in the ring that stands at the first round of turn t / 16, round t
+-- finds W(t) at place t % 16
+abbrev pub Finds : Type 0
+Finds = (w block : List ℕ) (t : ℕ) → t < 64 → Ring w block (16 * (t / 16)) → getD w (t % 16) 0 ≡ wordOf block t
+
 -- rolled forward by sixteen words: wherever w stands, r stands sixteen rounds later
 abbrev pub Rolls : List ℕ → List ℕ → Type 0
 Rolls w r = (block : List ℕ) (t : ℕ) → t ≤ 32 → Ring w block t → Ring r block (t + 16)
 
--- The rings of the four turns of sixteen rounds. The premises are what the contracts of `load` and `rolled` ensure, and nothing
--- else: the first is the block's own words, and each of the others is the one before it, rolled.
+-- The rings of a block's four turns of sixteen rounds. The premises are what the contracts of `load` and `rolled` ensure, and
+-- nothing else: the first is the block's own words, and each of the others is the one before it, rolled.
 pub record Rings (block : List ℕ) (ring : ℕ → List ℕ) : Type 0 where
   pub first : ring 0 ≡ schedule 0 block
   pub others : (turn : ℕ) → turn < 3 → Rolls (ring turn) (ring (turn + 1))
 
--- 'each round finds its word of FIPS 180-4's schedule there': round t, in turn t / 16, finds W(t) at place t % 16
+-- so each of the 64 rounds of a block finds its word, by these contracts alone
 abbrev pub EachRound : Type 0
 EachRound = (block : List ℕ) (ring : ℕ → List ℕ) → Rings block ring → (t : ℕ) → t < 64 → getD (ring (t / 16)) (t % 16) 0 ≡ wordOf block t
 
