@@ -326,7 +326,8 @@ AxleRefusal axle_complete(AxleConnection *connection, AxleLog log, AxleDecision 
 /* ---- Stack ------------------------------------------------------------------------------------------------------ */
 
 /* The most bytes of stack that each call writes on x86-64, below the frame of its caller: arguments by value, with what aligns
- * them, the return address, and everything further down. The gate paints the stack and sees that no call goes deeper. */
+ * them, the return address, and everything further down. Measured on the library as the gate builds it: the stack is painted, and
+ * no case of tests/stack.c goes deeper. It is no proof. */
 enum {
     AXLE_STACK_REFUSAL = 8,
     AXLE_STACK_HASH_FRESH = 8,

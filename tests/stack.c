@@ -28,7 +28,7 @@ static void note(const char *name, size_t depth)
     size_t i = 0;
     while (i < CALLS && calls[i].name && strcmp(calls[i].name, name))
         i++;
-    must(i < CALLS, "one call more");
+    must(i < CALLS, "the number of calls");
     if (!calls[i].name || depth < calls[i].least)
         calls[i].least = depth;
     if (!calls[i].name || calls[i].most < depth)
