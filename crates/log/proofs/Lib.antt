@@ -1,4 +1,5 @@
 pub mod Turns
+pub mod Places
 pub mod Messages
 pub mod Standing
 pub mod Accepting
