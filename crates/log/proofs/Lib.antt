@@ -6,3 +6,4 @@ pub mod Accepting
 pub mod Asking
 pub mod Checking
 pub mod Orders
+pub mod Histories

@@ -1,12 +1,13 @@
 -- The table of turns against document 01's orders: the words that lead from a place to a complete handshake, listed.
 -- Assumes nothing.
-use mathlib.Core.Path.{_≡_, refl, _∙_, ap, ap₂, subst}
+use mathlib.Core.Path.{_≡_, refl, sym, _∙_, ap, ap₂, subst}
 use mathlib.Core.Bool.{Bool, true, false, _&&_, _||_, false≢true}
 use mathlib.Core.Logic.{inl, inr}
 use mathlib.Core.List.{List, [], _∷_, _++_, map, List·Memᴰ, List·Memᴰ·head, List·Memᴰ·tail, Memᴰ·append-left, Memᴰ·append-right}
 use Prim.Native.Nat.{ℕ, zero, suc, _+_, _≤_}
 use native.Mathlib.Omega.{arith}
 use lib.Dec.{eqb, leb}
+use lib.ListN.{length}
 use borrow.Author.Tests.{eqb-true, ne-eqb, leb-true}
 use Rattle.seqs.specs.Pick.{pick}
 use Rattle.seqs.specs.Cases.{by-test, and-left, and-right}
@@ -17,15 +18,15 @@ use Rattle.log.specs.Stands.{number}
 use Rattle.log.proofs.Turns.{passes, each-place, same-place, not-due, turned}
 
 -- where an order ends, by the numbers
-ended : Place → Bool
+unfoldable pub ended : Place → Bool
 ended p = eqb (number p) 13 || eqb (number p) 16
 
-ended-true : (p : Place) → Ended p → ended p ≡ true
+pub ended-true : (p : Place) → Ended p → ended p ≡ true
 unfolding ended number
 ended-true p (inl e) = rw e
 ended-true p (inr e) = rw e
 
-ended-at : (p : Place) → ended p ≡ true → Ended p
+pub ended-at : (p : Place) → ended p ≡ true → Ended p
 unfolding ended number
 ended-at p e = go (eqb (number p) 13) refl e
   where
@@ -96,20 +97,30 @@ listed-words true = refl
 
 -- ---- what begins an order
 
-walk-append : (resumes : Bool) (p : Place) (l rest : List ℕ) → walk resumes p (l ++ rest) ≡ walk resumes (walk resumes p l) rest
+pub walk-append : (resumes : Bool) (p : Place) (l rest : List ℕ) → walk resumes p (l ++ rest) ≡ walk resumes (walk resumes p l) rest
 unfolding walk
 walk-append resumes p [] rest = refl
 walk-append resumes p (kind ∷ l) rest = walk-append resumes (look kind (turns resumes p)) l rest
 
-walks-front : (resumes : Bool) (p : Place) (l rest : List ℕ) → walks resumes p (l ++ rest) ≡ true → walks resumes p l ≡ true
-unfolding walks
-walks-front resumes p [] rest e = refl
-walks-front resumes p (kind ∷ l) rest e =
+pub walks-append : (resumes : Bool) (p : Place) (l rest : List ℕ)
+    → walks resumes p (l ++ rest) ≡ (walks resumes p l && walks resumes (walk resumes p l) rest)
+unfolding walks walk
+walks-append resumes p [] rest = refl
+walks-append resumes p (kind ∷ l) rest = rw (walks-append resumes (look kind (turns resumes p)) l rest) (and-assoc (isDue kind (turns resumes p)) _ _)
+  where
+    and-assoc : (a b c : Bool) → (a && (b && c)) ≡ ((a && b) && c)
+    and-assoc true b c = refl
+    and-assoc false b c = refl
+
+-- messages in turn lead to higher and higher numbers, though not to nowhere's
+pub climbs : (resumes : Bool) (p : Place) (l : List ℕ) → walks resumes p l ≡ true → number p + length l ≤ number (walk resumes p l)
+unfolding walks walk
+climbs resumes p [] e = omega arith
+climbs resumes p (kind ∷ l) e =
     let due : Bool = isDue kind (turns resumes p) in
     let q : Place = look kind (turns resumes p) in
-    rw (and-left due (walks resumes q (l ++ rest)) e) (walks-front resumes q l rest (and-right due (walks resumes q (l ++ rest)) e))
+    omega (arith, turned resumes p kind (and-left due (walks resumes q l) e) .rises, climbs resumes q l (and-right due (walks resumes q l) e))
 
--- messages in turn don't lead nowhere
 walks-somewhere : (resumes : Bool) (p : Place) (l : List ℕ) → (number p ≡ 17 → ⊥) → walks resumes p l ≡ true → number (walk resumes p l) ≡ 17 → ⊥
 unfolding walks walk
 walks-somewhere resumes p [] z e = z
@@ -166,7 +177,9 @@ orderly resumes = record { every = every; only = only; along = along; begins = b
 
     along : (l : List ℕ) → Begins resumes l → walks resumes beginning l ≡ true
     along l (rest, m) =
-        walks-front resumes beginning l rest (and-right (ended (walk resumes beginning (l ++ rest))) (walks resumes beginning (l ++ rest)) (followed resumes m))
+        and-left (walks resumes beginning l) (walks resumes (walk resumes beginning l) rest)
+        (sym (walks-append resumes beginning l rest)
+        ∙ and-right (ended (walk resumes beginning (l ++ rest))) (walks resumes beginning (l ++ rest)) (followed resumes m))
 
     begins : (l : List ℕ) → walks resumes beginning l ≡ true → Begins resumes l
     begins l e =

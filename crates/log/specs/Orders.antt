@@ -5,9 +5,14 @@ use mathlib.Core.Bool.{Bool, true, false, _&&_}
 use mathlib.Core.Logic.{_⊎_}
 use mathlib.Core.List.{List, [], _∷_, _++_, List·Memᴰ}
 use Prim.Native.Nat.{ℕ}
+use lib.Dec.{eqb}
 use Rattle.seqs.specs.Pick.{pick}
+use Rattle.message.specs.Frame.{kindOf}
 use Rattle.log.specs.Order.{Place, turns, isDue, look}
 use Rattle.log.specs.Order.Place.{beginning, completeFull, completeResumed}
+use Rattle.log.specs.History.{History, resumed, complete}
+use Rattle.log.specs.History.History.{fresh, accepted, checked}
+use Rattle.log.specs.Calls.{inOrder, sessionNumber}
 
 -- a type that may be there
 abbrev pub optional : Bool → ℕ → List ℕ
@@ -53,3 +58,19 @@ pub record Orderly (resumes : Bool) : Type 0 where
   pub only : (l : List ℕ) → Ended (walk resumes beginning l) → List·Memᴰ l (orders resumes)
   pub along : (l : List ℕ) → Begins resumes l → walks resumes beginning l ≡ true
   pub begins : (l : List ℕ) → walks resumes beginning l ≡ true → Begins resumes l
+
+-- the types of the accepted messages, the latest last; type 0 'is accepted anywhere' and is left out
+unfoldable pub typesOf : History → List ℕ
+typesOf fresh = []
+typesOf (accepted h m resumes) = pick (eqb (kindOf m) 0) (typesOf h) (typesOf h ++ (kindOf m ∷ []))
+typesOf (checked h m) = typesOf h
+
+-- the same of a history, by what it was told: each message was in turn exactly if the types begin an order, and then both Finished are taken
+-- exactly if they are one
+pub record Ordered (h : History) : Type 0 where
+  pub along : Begins (resumed h) (typesOf h) → inOrder h ≡ true
+  pub begins : inOrder h ≡ true → Begins (resumed h) (typesOf h)
+  pub every : inOrder h ≡ true → List·Memᴰ (typesOf h) (orders (resumed h)) → complete h ≡ true
+  pub only : inOrder h ≡ true → complete h ≡ true → List·Memᴰ (typesOf h) (orders (resumed h))
+  -- the session hash: 'in a resumed log, it is 7'
+  pub unhashed : inOrder h ≡ true → resumed h ≡ true → sessionNumber h ≡ 7
