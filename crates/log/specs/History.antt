@@ -73,6 +73,7 @@ fromServer h = eqb (finishedTaken h) (pick (resumed h) 0 1)
 pub data Side : Type 0 where
   client server : Side
 
+-- is it this side's?
 unfoldable pub isFrom : Side → History → Bool
 isFrom client h = not (fromServer h)
 isFrom server h = fromServer h
