@@ -3,7 +3,7 @@
  * Every function takes any bytes and any numbers, ends, and answers by the table of numbers below. None allocates, keeps
  * state of its own or calls the system. State is a struct that the caller owns: it goes in by value and the next state
  * comes back in the answer. A refused call hands the state back as it was and writes nothing. The functions whose names end
- * in _in do the same on a state where it stands.
+ * in _in do the same on a state where it stands; they and axle_wipe are plain C in this file, around the proved calls.
  *
  * Pointers. A pair (pointer, length) is lent for the time of the call: `const` ones are only read. A length of 0 may come
  * with any pointer, NULL too; with another length the pointer must be good for that many bytes. Two lent parts of one call

@@ -1,5 +1,2 @@
-"""The comparisons with the second program, and what holds the rest of the repository to its word."""
-
-
 class Missing(Exception):
-    """What this machine lacks for a module of tests: the runner says it in one line."""
+    """A tool that a test needs is not installed; the runner says it in one line."""

@@ -15,7 +15,7 @@ CRATE = ROOT / "bindings/rust"
 BUILT = ROOT / "target/rust"
 
 if not shutil.which("cargo"):
-    raise Missing("cargo is missing: the Rust crate was not tried")
+    raise Missing("cargo is not installed, or not on the PATH: the Rust crate's tests want it")
 
 
 def files():
@@ -129,7 +129,7 @@ def test_missing_cargo():
     """The gate says it in one line."""
     run = subprocess.run([sys.executable, "tests/runner.py", "test_bindings"], cwd=ROOT, env={"PATH": "/none"}, capture_output=True, text=True)
     assert (run.returncode, run.stderr) == (1, "")
-    assert run.stdout == "test_bindings: FAILED: cargo is missing: the Rust crate was not tried\n0 passed, 1 failed\n"
+    assert re.fullmatch(r"test_bindings: FAILED: cargo is not installed.*\n0 passed, 1 failed\n", run.stdout)
 
 
 NUMBERS = {name: int(n) for name, n in re.findall(r"^    AXLE_(\w+) = (\d+)", HEADER.read_text(), re.M)}
