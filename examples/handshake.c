@@ -52,23 +52,22 @@ static size_t server_hello(uint8_t *out, const uint8_t *identifier, uint8_t leng
     return message(out, SERVER_HELLO, body, 35 + length + sizeof chosen + reply_length);
 }
 
-static AxleLog accepted(AxleLog log, const uint8_t *bytes, size_t length, uint8_t resumes)
+static void accept(AxleLog *log, const uint8_t *bytes, size_t length, uint8_t resumes)
 {
-    AxleAccepted next = axle_log_accept(log, bytes, length, resumes);
-    done(next.refusal, "a message");
-    return next.log;
+    done(axle_log_accept_in(log, bytes, length, resumes), "a message");
 }
 
-/* The Finished that is due: its value is asked for, checked as the peer would, and taken. */
-static AxleLog finished(AxleLog log, const uint8_t *secret)
+/* Both Finished, as each is due: its value is asked for, checked as the peer would, and taken. */
+static void finish(AxleLog *log, const uint8_t *secret)
 {
-    uint8_t bytes[16];
-    AxleExpected expected = axle_log_expected_finished(log, secret, 48);
-    done(expected.refusal, "a Finished value");
-    message(bytes, FINISHED, expected.value, 12);
-    AxleChecked checked = axle_log_check_finished(log, secret, 48, bytes, sizeof bytes);
-    done(checked.refusal, "the check of a Finished");
-    return accepted(checked.log, bytes, sizeof bytes, 0);
+    for (int i = 0; i < 2; i++) {
+        uint8_t bytes[4 + AXLE_VERIFY_DATA_SIZE];
+        AxleExpected expected = axle_log_expected_finished(*log, secret, AXLE_SECRET_SIZE);
+        done(expected.refusal, "a Finished value");
+        message(bytes, FINISHED, expected.value, sizeof expected.value);
+        done(axle_log_check_finished_in(log, secret, AXLE_SECRET_SIZE, bytes, sizeof bytes), "the check of a Finished");
+        accept(log, bytes, sizeof bytes, 0);
+    }
 }
 
 /* Both hellos: the server decides and replies, the client decides on the reply; both must see the same. */
@@ -76,18 +75,19 @@ static AxleDecision hellos(AxleLog *log, AxleTable table, const uint8_t *offered
 {
     const AxleConnection fresh = axle_connection_fresh();
     static const uint8_t renewed[4] = {'n', 'e', 'x', 't'};
-    uint8_t hello[192], answer[192], reply[64];
+    uint8_t hello[192], answer[192], reply[AXLE_REPLY_MAX];
     size_t n = client_hello(hello, offered, length);
     AxleDecision server = axle_decide_server(hello, n, AXLE, table, fresh, strict, reply, sizeof reply);
     done(server.refusal, "the server's decision");
-    *log = accepted(axle_log_fresh(), hello, n, 0);
+    *log = axle_log_fresh();
+    accept(log, hello, n, 0);
     n = server.resumes ? server_hello(answer, offered, length, reply, server.reply_length)
                        : server_hello(answer, renewed, sizeof renewed, reply, server.reply_length);
     AxleDecision client = axle_decide_client(answer, n, offered, length, length > 0, offered, length, 1, fresh, strict);
     done(client.refusal, "the client's decision");
     if (client.resumes != server.resumes || client.ems != server.ems || client.indication != server.indication)
         exit(1);
-    *log = accepted(*log, answer, n, server.resumes);
+    accept(log, answer, n, server.resumes);
     printf("%s handshake, %zu bytes of reply\n", server.resumes ? "resumed" : "full", server.reply_length);
     return server;
 }
@@ -98,27 +98,30 @@ int main(void)
     AxleTable table = axle_table_fresh();
     AxleConnection connection = axle_connection_fresh();
     AxleLog log;
-    uint8_t bytes[64], secret[48];
+    uint8_t bytes[64], secret[AXLE_SECRET_SIZE];
 
     AxleDecision decision = hellos(&log, table, NULL, 0);
     static const uint8_t between[] = {CERTIFICATE, HELLO_DONE, KEY_EXCHANGE};
     for (size_t i = 0; i < sizeof between; i++)
-        log = accepted(log, bytes, message(bytes, between[i], bytes, 0), 0);
+        accept(&log, bytes, message(bytes, between[i], bytes, 0), 0);
     AxleSessionHash session = axle_log_session_hash(log);
     done(session.refusal, "the session hash");
-    done(axle_extended_master_secret(pre_master, sizeof pre_master, session.hash, 32, secret, sizeof secret), "the secret");
-    log = finished(finished(log, secret), secret);
+    done(axle_extended_master_secret(pre_master, sizeof pre_master, session.hash, sizeof session.hash, secret, sizeof secret),
+         "the secret");
+    finish(&log, secret);
     done(axle_complete(&connection, log, decision), "completion");
-    AxleStored stored = axle_table_store(table, AXLE, identifier, sizeof identifier, decision.ems, secret, sizeof secret);
-    done(stored.refusal, "the store");
-    printf("completed: %d, axle %d holds %d\n", connection.completed, AXLE, axle_table_held(stored.table, AXLE).count);
+    done(axle_table_store_in(&table, AXLE, identifier, sizeof identifier, decision.ems, secret, sizeof secret), "the store");
+    printf("completed: %d, axle %d holds %d\n", connection.completed, AXLE, axle_table_held(table, AXLE).count);
 
-    memset(secret, 0, sizeof secret);
+    axle_wipe(secret, sizeof secret);
     connection = axle_connection_fresh();
-    decision = hellos(&log, stored.table, identifier, sizeof identifier);
-    done(axle_table_look_up(stored.table, AXLE, identifier, sizeof identifier, secret, sizeof secret).refusal, "the look-up");
-    log = finished(finished(log, secret), secret);
+    decision = hellos(&log, table, identifier, sizeof identifier);
+    done(axle_table_look_up(table, AXLE, identifier, sizeof identifier, secret, sizeof secret).refusal, "the look-up");
+    finish(&log, secret);
     done(axle_complete(&connection, log, decision), "completion");
     printf("completed: %d\n", connection.completed);
+    axle_wipe(secret, sizeof secret);
+    axle_wipe(&table, sizeof table);
+    axle_wipe(&log, sizeof log);
     return 0;
 }

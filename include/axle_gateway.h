@@ -2,13 +2,34 @@
  *
  * Every function takes any bytes and any numbers, ends, and answers by the table of numbers below. None allocates, keeps
  * state of its own or calls the system. State is a struct that the caller owns: it goes in by value and the next state
- * comes back in the answer. A refused call hands the state back as it was and writes nothing.
+ * comes back in the answer. A refused call hands the state back as it was and writes nothing. The functions whose names end
+ * in _in do the same on a state where it stands; they and axle_wipe are plain C in this file, around the proved calls.
  *
- * A pair (pointer, length) is lent for the time of the call: `const` ones are only read. A length of 0 may come with any
- * pointer. Two lent parts of one call must not overlap where one of them is written. Flags are bytes: 0 is no, anything
- * else is yes; a flag in an answer is 0 or 1.
+ * Pointers. A pair (pointer, length) is lent for the time of the call: `const` ones are only read. A length of 0 may come
+ * with any pointer, NULL too; with another length the pointer must be good for that many bytes. Two lent parts of one call
+ * must not overlap where one of them is written. The record of axle_complete and the state of an _in function must not be
+ * NULL. None of this can be seen from inside: a call that breaks it is undefined, like a bad memcpy.
  *
- * What is inside AxleHash, AxleTable and AxleLog is not for callers: copy them, keep them, hand them in.
+ * Flags are bytes: 0 is no, anything else is yes; a flag in an answer is 0 or 1.
+ *
+ * Structs. What is inside AxleHash, AxleTable and AxleLog is not for callers: copy them, keep them, hand them in. No whole
+ * struct is for sending, storing or comparing by memcmp: the padding between fields may hold older bytes of the caller's
+ * stack, secrets among them, and a layout may change with the version. Fields are.
+ *
+ * Threads. Nothing is shared between calls, so any number of threads may call at once, each on values of its own. A value
+ * that two threads use (a state kept in place, a record, an output) wants the caller's lock, as any variable does.
+ *
+ * Wiping. The library wipes nothing. When done with them, a caller overwrites (axle_wipe): every AxleTable and every answer
+ * with one in it; the secret that a look-up or a master secret call wrote to `out`; pre-master secrets and HMAC keys; AxleLog
+ * and AxleExpected, which hold Finished values; AxleHash where what it took was secret. axle_table_clear empties what it
+ * answers, not the table that was passed. A call also leaves copies on the stack below its caller, within AXLE_STACK_..
+ *
+ * Processors. The archive and the shared library are for x86-64 (none of its extensions is needed) with the System V calling
+ * convention and ELF: Linux and its like, 64 bits, static or position-independent. They link nowhere else. Of the C library
+ * they need memcpy and memset alone, so a program without one brings these two.
+ *
+ * Stack. AXLE_STACK_.. at the end of this file has the bytes for each call. Answers lie in the caller's own frame, also those
+ * that an _in function asks for: one with a table has some 2,700 bytes.
  */
 #ifndef AXLE_GATEWAY_H
 #define AXLE_GATEWAY_H
@@ -19,6 +40,47 @@
 #ifdef __cplusplus
 extern "C" {
 #endif
+
+/* ---- Version and sizes ------------------------------------------------------------------------------------------- */
+
+/* The first number is 0 for as long as a struct or a call may change from one minor version to the next; a patch changes
+ * neither. So the shared library's soname has the first two. tools/build reads the numbers here. */
+#define AXLE_GATEWAY_VERSION_MAJOR 0
+#define AXLE_GATEWAY_VERSION_MINOR 2
+#define AXLE_GATEWAY_VERSION_PATCH 0
+#define AXLE_GATEWAY_VERSION "0.2.0"
+/* for #if: 200 is 0.2.0, 10203 is 1.2.3 */
+#define AXLE_GATEWAY_VERSION_NUMBER \
+    (AXLE_GATEWAY_VERSION_MAJOR * 10000 + AXLE_GATEWAY_VERSION_MINOR * 100 + AXLE_GATEWAY_VERSION_PATCH)
+
+/* In bytes: SIZE is exact, MAX the most. */
+enum {
+    AXLE_MESSAGE_MAX = 16388,   /* a whole handshake message, header included */
+    AXLE_REPLY_MAX = 35,        /* the reply of axle_decide_server: an `out` of this size is never too short */
+    AXLE_RANDOM_SIZE = 32,      /* a hello's random */
+    AXLE_IDENTIFIER_MAX = 32,   /* a session identifier */
+    AXLE_DIGEST_SIZE = 32,      /* SHA-256, HMAC-SHA-256, the session hash */
+    AXLE_SECRET_SIZE = 48,      /* a master secret */
+    AXLE_VERIFY_DATA_SIZE = 12, /* the value of a Finished */
+    AXLE_PRE_MASTER_MAX = 512,  /* a pre-master secret */
+    AXLE_HASH_MAX = 1048576,    /* what a hash takes from fresh */
+    AXLE_HMAC_MAX = 65536       /* an HMAC's key, and its message */
+};
+
+/* How many. */
+enum {
+    AXLE_AXLES = 6,             /* axles are numbered from 1 */
+    AXLE_SESSIONS_MAX = 32,     /* sessions in a table */
+    AXLE_SESSIONS_AN_AXLE = 8   /* sessions of one axle */
+};
+
+/* Overwrites with zeros, and is not optimised away. */
+static inline void axle_wipe(void *bytes, size_t length)
+{
+    volatile uint8_t *at = (volatile uint8_t *)bytes;
+    while (length-- > 0)
+        *at++ = 0;
+}
 
 /* ---- Numbers answered ------------------------------------------------------------------------------------------- */
 
@@ -64,12 +126,12 @@ typedef struct {
 } AxleAbsorbed;
 
 typedef struct {
-    uint8_t bytes[32];
+    uint8_t bytes[AXLE_DIGEST_SIZE];
 } AxleDigest;
 
 typedef struct {
     AxleRefusal refusal; /* 0, or 10 */
-    uint8_t digest[32];  /* refused: zeros */
+    uint8_t digest[AXLE_DIGEST_SIZE]; /* refused: zeros */
 } AxleDigested;
 
 /* A hash that has taken nothing. */
@@ -77,6 +139,14 @@ AxleHash axle_hash_fresh(void);
 
 /* Takes `length` bytes more. 10 where that would make more than 1,048,576 bytes from fresh. */
 AxleAbsorbed axle_hash_absorb(AxleHash hash, const uint8_t *bytes, size_t length);
+
+/* The same, on a hash in place. */
+static inline AxleRefusal axle_hash_absorb_in(AxleHash *hash, const uint8_t *bytes, size_t length)
+{
+    AxleAbsorbed answer = axle_hash_absorb(*hash, bytes, length);
+    *hash = answer.hash;
+    return answer.refusal;
+}
 
 /* The SHA-256 digest of all bytes taken so far; the hash can go on taking. */
 AxleDigest axle_hash_digest(AxleHash hash);
@@ -88,7 +158,7 @@ AxleDigested axle_sha256(const uint8_t *message, size_t length);
 
 typedef struct {
     AxleRefusal refusal; /* 0, or 10 */
-    uint8_t tag[32];     /* refused: zeros */
+    uint8_t tag[AXLE_DIGEST_SIZE]; /* refused: zeros */
 } AxleTagged;
 
 /* HMAC-SHA-256 of a message (RFC 2104). 10 where key or message has more than 65,536 bytes. */
@@ -105,7 +175,9 @@ AxleRefusal axle_master_secret(const uint8_t *pre_master, size_t pre_master_leng
 
 /* ---- Reading a hello -------------------------------------------------------------------------------------------- */
 
-/* A part of the message that was read: `length` bytes from place `at`, counted from the message's first byte. */
+/* A part of the message that was read: `length` bytes from place `at`, counted from the message's first byte. It lies within
+ * the message. A part of what is not there has length 0: without an extension block `list` is at the message's end, without
+ * renegotiation_info `indication` is at 0. What is there may be empty too, so it is `block` and `indicated` that tell. */
 typedef struct {
     size_t at;
     size_t length;
@@ -150,7 +222,11 @@ typedef struct {
     AxleServerHello hello; /* refused: zeros */
 } AxleServerReading;
 
-/* Reads one whole handshake message, header included: its fields, or the first fault. */
+/* Reads one whole handshake message, header included: its fields, or the first fault.
+ *
+ * What it costs at most: every pair of extension types is compared. A ClientHello of 16,388 bytes with 4,085 extensions takes
+ * 22 to 26 ms (docs/PERFORMANCE.md), so some 40 of them a second fill a core. Only the caller can bound that, by the length
+ * that an axle may send before it is known: 1.5 ms at 4,096 bytes, 0.4 ms at 2,048. A usual hello of 300 bytes takes 0.2 us. */
 AxleClientReading axle_read_client_hello(const uint8_t *message, size_t length);
 AxleServerReading axle_read_server_hello(const uint8_t *message, size_t length);
 
@@ -205,6 +281,16 @@ AxleTable axle_table_fresh(void);
 AxleStored axle_table_store(AxleTable table, uint8_t axle, const uint8_t *identifier, size_t identifier_length, uint8_t ems,
                             const uint8_t *secret, size_t secret_length);
 
+/* The same, on a table in place. */
+static inline AxleRefusal axle_table_store_in(AxleTable *table, uint8_t axle, const uint8_t *identifier,
+                                              size_t identifier_length, uint8_t ems, const uint8_t *secret,
+                                              size_t secret_length)
+{
+    AxleStored answer = axle_table_store(*table, axle, identifier, identifier_length, ems, secret, secret_length);
+    *table = answer.table;
+    return answer.refusal;
+}
+
 /* Looks a session up. Found, its secret goes to the first 48 bytes of `out`; 10, with nothing written, where `out` is
  * shorter. Where none is found nothing is written and no `out` is too short. */
 AxleLooked axle_table_look_up(AxleTable table, uint8_t axle, const uint8_t *identifier, size_t identifier_length, uint8_t *out,
@@ -213,11 +299,30 @@ AxleLooked axle_table_look_up(AxleTable table, uint8_t axle, const uint8_t *iden
 /* Takes a session out of the table, if it is there. */
 AxleWithdrawn axle_table_withdraw(AxleTable table, uint8_t axle, const uint8_t *identifier, size_t identifier_length);
 
+/* The same, on a table in place: `withdrawn` takes the answer's flag, 0 where refused; it may be NULL. */
+static inline AxleRefusal axle_table_withdraw_in(AxleTable *table, uint8_t axle, const uint8_t *identifier,
+                                                 size_t identifier_length, uint8_t *withdrawn)
+{
+    AxleWithdrawn answer = axle_table_withdraw(*table, axle, identifier, identifier_length);
+    *table = answer.table;
+    if (withdrawn != NULL)
+        *withdrawn = answer.withdrawn;
+    return answer.refusal;
+}
+
 /* How many sessions an axle holds. */
 AxleHeld axle_table_held(AxleTable table, uint8_t axle);
 
 /* Empties the table. */
 AxleCleared axle_table_clear(AxleTable table);
+
+/* The same, on a table in place. */
+static inline AxleRefusal axle_table_clear_in(AxleTable *table)
+{
+    AxleCleared answer = axle_table_clear(*table);
+    *table = answer.table;
+    return answer.refusal;
+}
 
 /* ---- Decisions -------------------------------------------------------------------------------------------------- */
 
@@ -226,8 +331,8 @@ typedef struct {
     uint8_t completed;  /* a handshake has completed */
     uint8_t indication; /* secure renegotiation is indicated (RFC 5746) */
     uint8_t barred;     /* no renegotiation after a legacy resumption */
-    uint8_t client[12]; /* the client's verify_data of the last handshake */
-    uint8_t server[12]; /* the server's */
+    uint8_t client[AXLE_VERIFY_DATA_SIZE]; /* the client's verify_data of the last handshake */
+    uint8_t server[AXLE_VERIFY_DATA_SIZE]; /* the server's */
 } AxleConnection;
 
 /* A record before any handshake. */
@@ -252,7 +357,10 @@ typedef struct {
 
 /* The server's decision on a ClientHello of this axle. The reply, which is the extension block of our ServerHello (with its
  * 2-byte length, or nothing at all), goes to the front of `out`; what stands behind it stays. 11 for the axle; 10, 1, 2, 3
- * for the hello; 9 or 5 for renegotiation; 6 for the master secret rule; last 10 where `out` is shorter than this reply. */
+ * for the hello; 9 or 5 for renegotiation; 6 for the master secret rule; last 10 where `out` is shorter than this reply.
+ *
+ * It reads the hello, so it costs what reading costs: 22 to 26 ms for 16,388 bytes with 4,085 extensions, and some 40 of them
+ * a second fill a core. Bound the length that an axle may send before it is known. */
 AxleDecision axle_decide_server(const uint8_t *message, size_t length, uint8_t axle, AxleTable table, AxleConnection connection,
                                 AxleSwitches switches, uint8_t *out, size_t out_length);
 
@@ -289,12 +397,12 @@ typedef struct {
 
 typedef struct {
     AxleRefusal refusal; /* 0 or 7 */
-    uint8_t hash[32];    /* refused: zeros */
+    uint8_t hash[AXLE_DIGEST_SIZE]; /* refused: zeros */
 } AxleSessionHash;
 
 typedef struct {
     AxleRefusal refusal; /* 0, 7 or 10 */
-    uint8_t value[12];   /* verify_data; refused: zeros */
+    uint8_t value[AXLE_VERIFY_DATA_SIZE]; /* verify_data; refused: zeros */
 } AxleExpected;
 
 /* A log that has accepted nothing. */
@@ -305,6 +413,14 @@ AxleLog axle_log_fresh(void);
  * only where its bytes were the last ones that axle_log_check_finished found equal. */
 AxleAccepted axle_log_accept(AxleLog log, const uint8_t *message, size_t length, uint8_t resumes);
 
+/* The same, on a log in place. */
+static inline AxleRefusal axle_log_accept_in(AxleLog *log, const uint8_t *message, size_t length, uint8_t resumes)
+{
+    AxleAccepted answer = axle_log_accept(*log, message, length, resumes);
+    *log = answer.log;
+    return answer.refusal;
+}
+
 /* The session hash of RFC 7627: over ClientHello through ClientKeyExchange. 7 before that, and in a resumed handshake. */
 AxleSessionHash axle_log_session_hash(AxleLog log);
 
@@ -313,6 +429,15 @@ AxleSessionHash axle_log_session_hash(AxleLog log);
 AxleChecked axle_log_check_finished(AxleLog log, const uint8_t *secret, size_t secret_length, const uint8_t *message,
                                     size_t message_length);
 
+/* The same, on a log in place. */
+static inline AxleRefusal axle_log_check_finished_in(AxleLog *log, const uint8_t *secret, size_t secret_length,
+                                                     const uint8_t *message, size_t message_length)
+{
+    AxleChecked answer = axle_log_check_finished(*log, secret, secret_length, message, message_length);
+    *log = answer.log;
+    return answer.refusal;
+}
+
 /* verify_data of the Finished that is due. 10 for a secret not of 48 bytes, 7 where none is due. */
 AxleExpected axle_log_expected_finished(AxleLog log, const uint8_t *secret, size_t secret_length);
 
@@ -320,7 +445,7 @@ AxleExpected axle_log_expected_finished(AxleLog log, const uint8_t *secret, size
 
 /* Both Finished are taken: writes to the record, where it stands, completed, the decision's flag and bar, and both
  * verify_data values. 7, with the record as it was, earlier, with a refused decision, or where decision and log disagree
- * on resuming. */
+ * on resuming. The record must not be NULL. */
 AxleRefusal axle_complete(AxleConnection *connection, AxleLog log, AxleDecision decision);
 
 /* ---- Stack ------------------------------------------------------------------------------------------------------ */

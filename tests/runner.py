@@ -9,6 +9,8 @@ import traceback
 ROOT = pathlib.Path(__file__).resolve().parent.parent
 sys.path.insert(0, str(ROOT))
 
+from tests import Missing  # noqa: E402  (the path above leads to it)
+
 
 def main(names):
     passed = failed = 0
@@ -17,6 +19,10 @@ def main(names):
             continue
         try:
             module = importlib.import_module(f"tests.{path.stem}")
+        except Missing as missing:
+            print(f"{path.stem}: FAILED: {missing}")
+            failed += 1
+            continue
         except Exception:
             traceback.print_exc()
             print(f"{path.stem}: not loaded")
@@ -30,6 +36,10 @@ def main(names):
                 said = test()
                 passed += 1
                 verdict = "passed"
+            except Missing as missing:
+                said = missing
+                failed += 1
+                verdict = "FAILED"
             except Exception:
                 traceback.print_exc()
                 said = None

@@ -1,6 +1,6 @@
 //! The C face as `include/axle_gateway.h` declares it. Every struct is plain bytes and numbers, so every value is legal.
 
-#![allow(missing_docs)]
+use crate::wiped::Plain;
 
 #[repr(C)]
 #[derive(Clone, Copy)]
@@ -218,6 +218,15 @@ pub struct Decision {
     pub bars_verify_data: u8,
     pub reply_length: usize,
 }
+
+macro_rules! plain {
+    ($($name:ident),*) => {
+        // SAFETY: structs of bytes and numbers.
+        $(unsafe impl Plain for $name {})*
+    };
+}
+
+plain!(Hash, Absorbed, Table, Stored, Withdrawn, Log, NextLog, Connection);
 
 extern "C" {
     pub fn axle_refusal(number: u8) -> Refusal;

@@ -65,6 +65,10 @@ fn extensions(message: &[u8], raw: ffi::Extensions) -> Extensions<'_> {
 }
 
 /// Reads one whole ClientHello message, header included: its fields, or the first fault.
+///
+/// What it costs at most: every pair of extension types is compared. A hello of 16,388 bytes with 4,085 extensions takes 22 to
+/// 26 ms, so some 40 of them a second fill a core. Only the caller can bound that, by the length that an axle may send before
+/// it is known: 1.5 ms at 4,096 bytes, 0.4 ms at 2,048.
 pub fn read_client_hello(message: &[u8]) -> Result<ClientHello<'_>> {
     // SAFETY: the slice is good for its length and only read.
     let answer = unsafe { ffi::axle_read_client_hello(message.as_ptr(), message.len()) };
@@ -80,7 +84,8 @@ pub fn read_client_hello(message: &[u8]) -> Result<ClientHello<'_>> {
     })
 }
 
-/// Reads one whole ServerHello message, header included: its fields, or the first fault.
+/// Reads one whole ServerHello message, header included: its fields, or the first fault. It costs as much at most as
+/// [reading a ClientHello](read_client_hello).
 pub fn read_server_hello(message: &[u8]) -> Result<ServerHello<'_>> {
     // SAFETY: the slice is good for its length and only read.
     let answer = unsafe { ffi::axle_read_server_hello(message.as_ptr(), message.len()) };

@@ -1,10 +1,29 @@
 //! The handshake part of the axle gateway, for Rust: safe functions over the proved library's C face.
 //!
-//! Nothing here allocates or keeps state behind the caller's back. A state ([`struct@Hash`], [`Table`], [`Log`], [`Connection`]) is a plain value that the caller
-//! owns; a refused call leaves it as it was. Every call takes any bytes and ends; what each answers is proved against
-//! definitions taken from the papers (`docs/ACCEPTANCE.md` of the repository).
+//! Nothing here allocates, calls the system or keeps state behind the caller's back, and `std` is not needed. A state
+//! ([`struct@Hash`], [`Table`], [`Log`], [`Connection`]) is a value that the caller owns; a refused call leaves it as it was.
+//! Every call takes any bytes and ends; what each answers is proved against definitions taken from the papers
+//! (`docs/ACCEPTANCE.md` of the repository). The library has no state of its own, so threads need no lock but for a value that
+//! they share.
+//!
+//! States and secrets are not `Copy`, their `Debug` shows no secret, and they are overwritten when dropped, as are the answers
+//! that held them on the way. Copies that the library or the compiler leaves on the stack are not.
+//!
+//! ```
+//! use axle_gateway::{extended_master_secret, Refusal, Table};
+//!
+//! let secret = extended_master_secret(&[3; 48], &[7; 32])?;
+//! let mut table = Table::new();
+//! table.store(4, b"session", true, &secret)?;
+//! let session = table.look_up(4, b"session")?.expect("it was stored");
+//! assert_eq!(session.secret.as_bytes(), secret.as_bytes());
+//! assert_eq!(table.store(7, b"session", true, &secret), Err(Refusal::AxleOrIdentifier));
+//! # Ok::<(), Refusal>(())
+//! ```
 
-#![warn(missing_docs)]
+#![no_std]
+#![warn(missing_docs, missing_debug_implementations)]
+#![warn(clippy::must_use_candidate, clippy::undocumented_unsafe_blocks)]
 
 mod decision;
 mod ffi;
@@ -13,12 +32,15 @@ mod hello;
 mod log;
 mod refusal;
 mod secrets;
+mod sizes;
 mod table;
+mod wiped;
 
 pub use decision::{decide_client, decide_server, Connection, Decision, Offer, Switches};
 pub use hash::{sha256, Hash};
 pub use hello::{read_client_hello, read_server_hello, ClientHello, Extensions, ServerHello};
 pub use log::Log;
 pub use refusal::{Alert, Level, Refusal, Result};
-pub use secrets::{extended_master_secret, hmac, master_secret};
+pub use secrets::{extended_master_secret, hmac, master_secret, Secret};
+pub use sizes::*;
 pub use table::{Session, Table};

@@ -1,11 +1,14 @@
 //! The message log.
 
-use crate::ffi;
 use crate::refusal::{done, Result};
+use crate::secrets::Secret;
+use crate::sizes::{DIGEST_SIZE, SECRET_SIZE, VERIFY_DATA_SIZE};
+use crate::{ffi, wiped::Wiped};
+use core::fmt;
 
 /// The transcript of one handshake: whose turn it is, and its running hash.
-#[derive(Clone, Copy)]
-pub struct Log(pub(crate) ffi::Log);
+#[derive(Clone)]
+pub struct Log(pub(crate) Wiped<ffi::Log>);
 
 impl Default for Log {
     fn default() -> Log {
@@ -13,45 +16,60 @@ impl Default for Log {
     }
 }
 
+impl fmt::Debug for Log {
+    fn fmt(&self, f: &mut fmt::Formatter<'_>) -> fmt::Result {
+        f.debug_struct("Log").finish_non_exhaustive()
+    }
+}
+
 impl Log {
     /// A log that has accepted nothing.
+    #[must_use]
     pub fn new() -> Log {
         // SAFETY: takes nothing and touches no memory.
-        Log(unsafe { ffi::axle_log_fresh() })
+        Log(Wiped(unsafe { ffi::axle_log_fresh() }))
     }
 
-    fn next(&mut self, answer: ffi::NextLog) -> Result<()> {
-        self.0 = answer.log;
+    /// Accepts the next handshake message, header included. `resumes` is of account with a ServerHello alone. Refused as
+    /// [`Length`](crate::Refusal::Length) over 16,388 bytes, [`Malformed`](crate::Refusal::Malformed), or
+    /// [`OutOfTurn`](crate::Refusal::OutOfTurn), also for a Finished that was not checked last.
+    pub fn accept(&mut self, message: &[u8], resumes: bool) -> Result<()> {
+        // SAFETY: the slice is good for its length and only read.
+        let answer = Wiped(unsafe { ffi::axle_log_accept(*self.0, message.as_ptr(), message.len(), resumes.into()) });
+        *self.0 = answer.log;
         done(answer.refusal, ())
     }
 
-    /// Accepts the next handshake message, header included. `resumes` is of account with a ServerHello alone. Refused
-    /// with 10 over 16,388 bytes, 1 malformed, 7 out of turn or a Finished that was not checked last.
-    pub fn accept(&mut self, message: &[u8], resumes: bool) -> Result<()> {
-        // SAFETY: the slice is good for its length and only read.
-        self.next(unsafe { ffi::axle_log_accept(self.0, message.as_ptr(), message.len(), resumes.into()) })
-    }
-
-    /// The session hash of RFC 7627. Refused with 7 before the ClientKeyExchange, and in a resumed handshake.
-    pub fn session_hash(&self) -> Result<[u8; 32]> {
+    /// The session hash of RFC 7627. Refused as [`OutOfTurn`](crate::Refusal::OutOfTurn) before the ClientKeyExchange, and in a
+    /// resumed handshake.
+    pub fn session_hash(&self) -> Result<[u8; DIGEST_SIZE]> {
         // SAFETY: takes any value of the struct and touches no memory.
-        let answer = unsafe { ffi::axle_log_session_hash(self.0) };
+        let answer = unsafe { ffi::axle_log_session_hash(*self.0) };
         done(answer.refusal, answer.hash)
     }
 
-    /// Is this the Finished that is due? Refused with 10, 1, 7, or 8 where its value differs. Done, the log remembers it
-    /// until its next accepted message.
-    pub fn check_finished(&mut self, secret: &[u8; 48], message: &[u8]) -> Result<()> {
+    /// Is this the Finished that is due? Done, the log remembers it until its next accepted message. Refused as
+    /// [`Length`](crate::Refusal::Length), [`Malformed`](crate::Refusal::Malformed), [`OutOfTurn`](crate::Refusal::OutOfTurn), or
+    /// [`FinishedDiffers`](crate::Refusal::FinishedDiffers).
+    pub fn check_finished(&mut self, secret: &Secret, message: &[u8]) -> Result<()> {
         // SAFETY: the slices are good for their lengths and only read.
-        self.next(unsafe {
-            ffi::axle_log_check_finished(self.0, secret.as_ptr(), secret.len(), message.as_ptr(), message.len())
-        })
+        let answer = Wiped(unsafe {
+            ffi::axle_log_check_finished(
+                *self.0,
+                secret.as_bytes().as_ptr(),
+                SECRET_SIZE,
+                message.as_ptr(),
+                message.len(),
+            )
+        });
+        *self.0 = answer.log;
+        done(answer.refusal, ())
     }
 
-    /// verify_data of the Finished that is due. Refused with 7 where none is.
-    pub fn expected_finished(&self, secret: &[u8; 48]) -> Result<[u8; 12]> {
+    /// verify_data of the Finished that is due. Refused as [`OutOfTurn`](crate::Refusal::OutOfTurn) where none is.
+    pub fn expected_finished(&self, secret: &Secret) -> Result<[u8; VERIFY_DATA_SIZE]> {
         // SAFETY: the slice is good for its length and only read.
-        let answer = unsafe { ffi::axle_log_expected_finished(self.0, secret.as_ptr(), secret.len()) };
+        let answer = unsafe { ffi::axle_log_expected_finished(*self.0, secret.as_bytes().as_ptr(), SECRET_SIZE) };
         done(answer.refusal, answer.value)
     }
 }

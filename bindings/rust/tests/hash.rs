@@ -1,6 +1,6 @@
 //! SHA-256 through the safe functions: published vectors and the bound.
 
-use axle_gateway::{sha256, Alert, Hash, Level, Refusal};
+use axle_gateway::{sha256, Hash, Refusal, HASH_MAX};
 
 fn hex(bytes: &[u8]) -> String {
     bytes.iter().map(|b| format!("{b:02x}")).collect()
@@ -19,14 +19,9 @@ fn published_vectors() {
 #[test]
 fn too_much_is_refused_and_changes_nothing() {
     let mut hash = Hash::new();
-    hash.absorb(&vec![7; 1_048_576]).unwrap();
+    hash.absorb(&vec![7; HASH_MAX]).unwrap();
     let before = hash.digest();
-    assert_eq!(hash.absorb(&[7]), Err(Refusal { number: 10, alert: None }));
+    assert_eq!(hash.absorb(&[7]), Err(Refusal::Length));
     assert_eq!(hash.digest(), before);
-}
-
-#[test]
-fn alerts() {
-    assert_eq!(Refusal::of(9).alert, Some(Alert { level: Level::Warning, code: 100 }));
-    assert_eq!(Refusal::of(200).alert, None);
+    assert_eq!(sha256(&vec![7; HASH_MAX + 1]), Err(Refusal::Length));
 }

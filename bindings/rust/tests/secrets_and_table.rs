@@ -7,34 +7,36 @@ fn rfc_4231() {
     let tag = hmac(b"Jefe", b"what do ya want for nothing?").unwrap();
     let hex: String = tag.iter().map(|b| format!("{b:02x}")).collect();
     assert_eq!(hex, "5bdcc146bf60754e6a042426089575c75a003f089d2739839dec58b964ec3843");
-    assert_eq!(hmac(&[0; 65_537], b"").unwrap_err().number, 10);
+    assert_eq!(hmac(&[0; HMAC_MAX + 1], b""), Err(Refusal::Length));
 }
 
 #[test]
 fn master_secrets_differ_and_refuse() {
     let extended = extended_master_secret(&[1], &[2; 32]).unwrap();
     let legacy = master_secret(&[1], &[2; 32], &[2; 32]).unwrap();
-    assert_ne!(extended, legacy);
-    assert_eq!(extended_master_secret(&[], &[2; 32]).unwrap_err().number, 10);
-    assert_eq!(master_secret(&[0; 513], &[2; 32], &[2; 32]).unwrap_err().number, 10);
+    assert_ne!(extended.as_bytes(), legacy.as_bytes());
+    assert_eq!(extended_master_secret(&[], &[2; 32]).unwrap_err(), Refusal::Length);
+    assert_eq!(master_secret(&[0; PRE_MASTER_MAX + 1], &[2; 32], &[2; 32]).unwrap_err(), Refusal::Length);
 }
 
 #[test]
 fn one_axle_cannot_push_the_others_out() {
     let mut table = Table::new();
     for axle in [1, 2, 3, 5, 6] {
-        table.store(axle, b"kept", true, &[axle; 48]).unwrap();
+        table.store(axle, b"kept", true, &Secret::from([axle; 48])).unwrap();
     }
     for n in 0..1000u32 {
-        table.store(4, &n.to_be_bytes(), false, &[4; 48]).unwrap();
+        table.store(4, &n.to_be_bytes(), false, &Secret::from([4; 48])).unwrap();
     }
-    assert_eq!(table.held(4), Ok(8));
+    assert_eq!(format!("{table:?}"), "Table { held: [1, 1, 1, 8, 1, 1], .. }");
     for axle in [1, 2, 3, 5, 6] {
-        assert!(table.look_up(axle, b"kept").unwrap().is_some_and(|s| s.ems && s.secret == [axle; 48]));
+        assert!(table.look_up(axle, b"kept").unwrap().is_some_and(|s| s.ems && *s.secret.as_bytes() == [axle; 48]));
     }
+    assert!(table.look_up(1, b"other").unwrap().is_none());
     assert_eq!(table.withdraw(1, b"kept"), Ok(true));
     assert_eq!(table.withdraw(1, b"kept"), Ok(false));
-    assert_eq!(table.store(7, b"x", true, &[0; 48]).unwrap_err().number, 11);
+    assert_eq!(table.store(7, b"x", true, &Secret::from([0; 48])), Err(Refusal::AxleOrIdentifier));
+    assert_eq!(table.held(4), Ok(8));
     table.clear();
     assert_eq!(table.held(4), Ok(0));
 }

@@ -1,0 +1,93 @@
+//! One handshake between our two sides, and its resumption: hellos, decisions, transcript, secrets, Finished, completion, table.
+//! Key exchange, certificates and records are the caller's matter, so their messages are stand-ins here.
+//!
+//! `cargo run --example handshake`
+
+use axle_gateway::{
+    decide_client, decide_server, extended_master_secret, Connection, Decision, Log, Offer, Result, Secret, Switches,
+    Table, REPLY_MAX,
+};
+
+const AXLE: u8 = 3;
+const STRICT: Switches = Switches { indication_required: true, legacy_full: false, legacy_resumption: false };
+const PRE_MASTER: [u8; 48] = [42; 48];
+const IDENTIFIER: &[u8] = b"next";
+
+const CLIENT_HELLO: u8 = 1;
+const SERVER_HELLO: u8 = 2;
+const CERTIFICATE: u8 = 11;
+const HELLO_DONE: u8 = 14;
+const KEY_EXCHANGE: u8 = 16;
+const FINISHED: u8 = 20;
+
+fn message(kind: u8, body: &[u8]) -> Vec<u8> {
+    let length = u16::try_from(body.len()).expect("a short body").to_be_bytes();
+    [&[kind, 0], &length[..], body].concat()
+}
+
+/// Our client's hello: RI and EMS, for a first handshake, and an identifier if it has a session.
+pub fn client_hello(identifier: &[u8]) -> Vec<u8> {
+    let rest = [0, 2, 0, 0x3b, 1, 0, 0, 9, 0xff, 1, 0, 1, 0, 0, 0x17, 0, 0];
+    message(CLIENT_HELLO, &[&[3, 3], &[7; 32][..], &[identifier.len() as u8], identifier, &rest].concat())
+}
+
+/// Our server's hello, with the reply that was decided.
+pub fn server_hello(identifier: &[u8], reply: &[u8]) -> Vec<u8> {
+    let chosen = [0, 0x3b, 0];
+    message(SERVER_HELLO, &[&[3, 3], &[9; 32][..], &[identifier.len() as u8], identifier, &chosen, reply].concat())
+}
+
+/// Both hellos: the server decides and replies, the client decides on the reply; both must see the same.
+fn hellos(log: &mut Log, table: &Table, offer: Option<Offer<'_>>) -> Result<Decision> {
+    let fresh = Connection::new();
+    let offered = offer.map_or(&[][..], |offer| offer.identifier);
+    let hello = client_hello(offered);
+    let mut room = [0; REPLY_MAX];
+    let (server, reply) = decide_server(&hello, AXLE, table, &fresh, STRICT, &mut room)?;
+    log.accept(&hello, false)?;
+    let answer = server_hello(if server.resumes() { offered } else { IDENTIFIER }, reply);
+    let client = decide_client(&answer, offer, &fresh, STRICT)?;
+    assert_eq!(
+        (client.resumes(), client.ems(), client.indication()),
+        (server.resumes(), server.ems(), server.indication())
+    );
+    log.accept(&answer, server.resumes())?;
+    println!("{} handshake, {} bytes of reply", if server.resumes() { "resumed" } else { "full" }, reply.len());
+    Ok(server)
+}
+
+/// The Finished that is due, twice: its value is asked for, checked as the peer would, and taken.
+fn finish(log: &mut Log, secret: &Secret) -> Result<()> {
+    for _ in 0..2 {
+        let finished = message(FINISHED, &log.expected_finished(secret)?);
+        log.check_finished(secret, &finished)?;
+        log.accept(&finished, false)?;
+    }
+    Ok(())
+}
+
+/// The whole of it.
+pub fn main() -> Result<()> {
+    let mut table = Table::new();
+
+    let mut log = Log::new();
+    let decision = hellos(&mut log, &table, None)?;
+    for kind in [CERTIFICATE, HELLO_DONE, KEY_EXCHANGE] {
+        log.accept(&message(kind, b""), false)?;
+    }
+    let secret = extended_master_secret(&PRE_MASTER, &log.session_hash()?)?;
+    finish(&mut log, &secret)?;
+    let mut connection = Connection::new();
+    connection.complete(&log, &decision)?;
+    table.store(AXLE, IDENTIFIER, decision.ems(), &secret)?;
+    println!("{connection:?}, {table:?}");
+
+    let mut log = Log::new();
+    let decision = hellos(&mut log, &table, Some(Offer { identifier: IDENTIFIER, ems: true }))?;
+    let session = table.look_up(AXLE, IDENTIFIER)?.expect("it was stored");
+    finish(&mut log, &session.secret)?;
+    let mut connection = Connection::new();
+    connection.complete(&log, &decision)?;
+    println!("{connection:?}, {session:?}");
+    Ok(())
+}

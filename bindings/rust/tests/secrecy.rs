@@ -1,0 +1,67 @@
+//! Secrets are not shown by `Debug`, and are overwritten when dropped.
+
+use axle_gateway::*;
+use std::fmt::Debug;
+use std::mem::{size_of, MaybeUninit};
+
+/// Unlike any number that `Debug` would print for another reason.
+const MARK: u8 = 199;
+const SECRET: [u8; 48] = [MARK; 48];
+
+/// The bytes that a value leaves behind when it is dropped where it stands.
+fn left_by<T>(value: T) -> Vec<u8> {
+    let mut place = Box::new(MaybeUninit::new(value));
+    // SAFETY: the value is there, is dropped once, and its bytes were all written: by it, or by its drop.
+    unsafe {
+        place.assume_init_drop();
+        std::slice::from_raw_parts(place.as_ptr().cast::<u8>(), size_of::<T>()).to_vec()
+    }
+}
+
+fn marked_table() -> Table {
+    let mut table = Table::new();
+    table.store(1, &[MARK; 32], true, &Secret::from(SECRET)).unwrap();
+    table
+}
+
+fn marked_hash() -> Hash {
+    let mut hash = Hash::new();
+    hash.absorb(&[MARK; 63]).unwrap();
+    hash
+}
+
+fn marked_log() -> Log {
+    let mut log = Log::new();
+    log.accept(&[&[1, 0, 0, 50][..], &[MARK; 50]].concat(), false).unwrap();
+    log
+}
+
+#[test]
+fn dropped_values_are_zeros() {
+    fn zeros(bytes: Vec<u8>) -> bool {
+        !bytes.is_empty() && bytes.iter().all(|byte| *byte == 0)
+    }
+    assert!(!zeros(left_by(SECRET)), "an array stays");
+    assert!(zeros(left_by(Secret::from(SECRET))));
+    assert!(zeros(left_by(marked_table())));
+    assert!(zeros(left_by(marked_table().clone())));
+    assert!(zeros(left_by(marked_hash())));
+    assert!(zeros(left_by(marked_log())));
+    assert!(zeros(left_by(Connection::new())));
+    let session = marked_table().look_up(1, &[MARK; 32]).unwrap().unwrap();
+    assert!(session.secret.as_bytes() == &SECRET && left_by(session).iter().all(|byte| *byte != MARK));
+}
+
+#[test]
+fn debug_shows_no_secret() {
+    let table = marked_table();
+    let session = table.look_up(1, &[MARK; 32]).unwrap().unwrap();
+    let secret = Secret::from(SECRET);
+    let (hash, log, connection) = (marked_hash(), marked_log(), Connection::new());
+    let all: [&dyn Debug; 6] = [&table, &session, &secret, &hash, &log, &connection];
+    let text = format!("{all:?} {all:#?}");
+    assert!(!text.contains("199") && !text.to_lowercase().contains("c7"), "{text}");
+    assert_eq!(format!("{session:?}"), "Session { ems: true, secret: Secret(..) }");
+    assert_eq!(format!("{hash:?} {log:?}"), "Hash { .. } Log { .. }");
+    assert_eq!(format!("{connection:?}"), "Connection { completed: false, indication: false, barred: false, .. }");
+}

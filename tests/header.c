@@ -1,0 +1,295 @@
+/* What include/axle_gateway.h says beside the calls: versions, sizes, parts of what is absent, NULL with length 0, and the functions
+ * that keep a state in place. It is C99 and C++ at once; each case that is not so is a line, and the last line counts them all. */
+#include "axle_gateway.h"
+
+#include <stdio.h>
+#include <string.h>
+
+static int cases, wrong;
+
+#define IS(what)                                                 \
+    do {                                                         \
+        cases++;                                                 \
+        if (!(what)) {                                           \
+            wrong++;                                             \
+            printf("line %d is not so: %s\n", __LINE__, #what);  \
+        }                                                        \
+    } while (0)
+
+enum { CLIENT_HELLO = 1, SERVER_HELLO = 2, HELLO_DONE = 14, KEY_EXCHANGE = 16, FINISHED = 20 };
+
+static uint8_t bytes[AXLE_HASH_MAX + 1];
+static const uint8_t secret[AXLE_SECRET_SIZE] = {1, 2, 3};
+static const uint8_t name[AXLE_IDENTIFIER_MAX] = {9};
+
+static int same(const void *a, const void *b, size_t length)
+{
+    return memcmp(a, b, length) == 0;
+}
+
+static size_t message(uint8_t *to, uint8_t type, const uint8_t *body, size_t length)
+{
+    to[0] = type;
+    to[1] = 0;
+    to[2] = (uint8_t)(length >> 8);
+    to[3] = (uint8_t)length;
+    memmove(to + 4, body, length);
+    return 4 + length;
+}
+
+/* A hello without an identifier: `rest` stands behind the methods of a ClientHello, or the method of a ServerHello. */
+static size_t hello(uint8_t *to, uint8_t type, const uint8_t *rest, size_t length)
+{
+    uint8_t body[128] = {3, 3};
+    size_t n = 35;
+    if (type == CLIENT_HELLO)
+        body[n++] = 0, body[n++] = 2;
+    body[n++] = 0, body[n++] = 60;
+    if (type == CLIENT_HELLO)
+        body[n++] = 1;
+    body[n++] = 0;
+    memcpy(body + n, rest, length);
+    return message(to, type, body, n + length);
+}
+
+/* ---- Version and sizes ------------------------------------------------------------------------------------------- */
+
+#if AXLE_GATEWAY_VERSION_NUMBER < 200
+#error "older than 0.2.0"
+#endif
+
+static void versions(void)
+{
+    char text[64];
+    sprintf(text, "%d.%d.%d", AXLE_GATEWAY_VERSION_MAJOR, AXLE_GATEWAY_VERSION_MINOR, AXLE_GATEWAY_VERSION_PATCH);
+    IS(strcmp(text, AXLE_GATEWAY_VERSION) == 0);
+}
+
+/* Each size at its bound, and a byte beyond it. */
+static void sizes(void)
+{
+    uint8_t out[128];
+    AxleConnection later = axle_connection_fresh();
+    const AxleSwitches none = {0, 0, 0};
+    static const uint8_t ri_and_ems[] = {0, 21, 255, 1, 0, 13, 12, 0, 0, 0, 0, 0, 0, 0, 0, 0, 0, 0, 0, 0, 23, 0, 0};
+    AxleDecision decision;
+    AxleTable table = axle_table_fresh();
+    size_t n;
+    uint8_t i;
+
+    memset(bytes, 0, sizeof bytes);
+    bytes[0] = CLIENT_HELLO, bytes[2] = (AXLE_MESSAGE_MAX - 4) >> 8, bytes[3] = (AXLE_MESSAGE_MAX - 4) & 255;
+    IS(axle_log_accept(axle_log_fresh(), bytes, AXLE_MESSAGE_MAX, 0).refusal.number == AXLE_DONE);
+    IS(axle_log_accept(axle_log_fresh(), bytes, AXLE_MESSAGE_MAX + 1, 0).refusal.number == AXLE_LENGTH);
+    IS(axle_read_client_hello(bytes, AXLE_MESSAGE_MAX).refusal.number == AXLE_MALFORMED);
+    IS(axle_read_client_hello(bytes, AXLE_MESSAGE_MAX + 1).refusal.number == AXLE_LENGTH);
+
+    later.completed = later.indication = 1;
+    n = hello(bytes, CLIENT_HELLO, ri_and_ems, sizeof ri_and_ems);
+    IS(axle_read_client_hello(bytes, n).hello.random.length == AXLE_RANDOM_SIZE);
+    decision = axle_decide_server(bytes, n, 1, table, later, none, out, AXLE_REPLY_MAX);
+    IS(decision.refusal.number == AXLE_DONE && decision.reply_length == AXLE_REPLY_MAX);
+    IS(axle_decide_server(bytes, n, 1, table, later, none, out, AXLE_REPLY_MAX - 1).refusal.number == AXLE_LENGTH);
+
+    IS(axle_sha256(bytes, AXLE_HASH_MAX).refusal.number == AXLE_DONE);
+    IS(axle_sha256(bytes, AXLE_HASH_MAX + 1).refusal.number == AXLE_LENGTH);
+    IS(axle_hmac(bytes, AXLE_HMAC_MAX, bytes, AXLE_HMAC_MAX).refusal.number == AXLE_DONE);
+    IS(axle_hmac(bytes, AXLE_HMAC_MAX + 1, bytes, 0).refusal.number == AXLE_LENGTH);
+    IS(axle_hmac(bytes, 0, bytes, AXLE_HMAC_MAX + 1).refusal.number == AXLE_LENGTH);
+    IS(axle_extended_master_secret(bytes, AXLE_PRE_MASTER_MAX, bytes, AXLE_DIGEST_SIZE, out, AXLE_SECRET_SIZE).number == AXLE_DONE);
+    IS(axle_extended_master_secret(bytes, AXLE_PRE_MASTER_MAX + 1, bytes, AXLE_DIGEST_SIZE, out, AXLE_SECRET_SIZE).number == AXLE_LENGTH);
+    IS(axle_extended_master_secret(bytes, 1, bytes, AXLE_DIGEST_SIZE + 1, out, AXLE_SECRET_SIZE).number == AXLE_LENGTH);
+    IS(axle_extended_master_secret(bytes, 1, bytes, AXLE_DIGEST_SIZE, out, AXLE_SECRET_SIZE - 1).number == AXLE_LENGTH);
+    IS(axle_master_secret(bytes, 1, bytes, 2 * AXLE_RANDOM_SIZE, out, AXLE_SECRET_SIZE).number == AXLE_DONE);
+
+    IS(axle_table_store(table, AXLE_AXLES, name, AXLE_IDENTIFIER_MAX, 0, secret, AXLE_SECRET_SIZE).refusal.number == AXLE_DONE);
+    IS(axle_table_store(table, AXLE_AXLES, bytes, AXLE_IDENTIFIER_MAX + 1, 0, secret, AXLE_SECRET_SIZE).refusal.number
+       == AXLE_AXLE_OR_IDENTIFIER);
+    IS(axle_table_held(table, AXLE_AXLES + 1).refusal.number == AXLE_AXLE_OR_IDENTIFIER);
+    for (n = 0, i = 0; i < 6 * 16; i++)
+        axle_table_store_in(&table, (uint8_t)(1 + i / 16), &i, 1, 0, secret, sizeof secret);
+    for (i = 1; i <= AXLE_AXLES; i++)
+        n += axle_table_held(table, i).count;
+    IS(n == AXLE_SESSIONS_MAX);
+    table = axle_table_fresh();
+    for (i = 0; i < 16; i++)
+        axle_table_store_in(&table, 1, &i, 1, 0, secret, sizeof secret);
+    IS(axle_table_held(table, 1).count == AXLE_SESSIONS_AN_AXLE);
+    IS(sizeof axle_log_expected_finished(axle_log_fresh(), secret, sizeof secret).value == AXLE_VERIFY_DATA_SIZE);
+}
+
+/* ---- Parts ------------------------------------------------------------------------------------------------------- */
+
+static int at(AxlePart part, size_t place, size_t length)
+{
+    return part.at == place && part.length == length;
+}
+
+static void parts(void)
+{
+    static const uint8_t empty_block[] = {0, 0};
+    static const uint8_t ems[] = {0, 4, 0, 23, 0, 0};
+    static const uint8_t empty_ri[] = {0, 5, 255, 1, 0, 1, 0};
+    AxleExtensions e;
+    AxleClientReading refused;
+    uint8_t type;
+    size_t n;
+    for (type = CLIENT_HELLO; type <= SERVER_HELLO; type++) {
+#define READ(rest, length)                             \
+    (n = hello(bytes, type, rest, length),             \
+     e = type == CLIENT_HELLO ? axle_read_client_hello(bytes, n).hello.extensions : axle_read_server_hello(bytes, n).hello.extensions)
+        READ(empty_block, 0);
+        IS(!e.block && at(e.list, n, 0) && !e.indicated && at(e.indication, 0, 0) && !e.ems);
+        READ(empty_block, sizeof empty_block);
+        IS(e.block && at(e.list, n, 0) && !e.indicated && at(e.indication, 0, 0) && !e.ems);
+        READ(ems, sizeof ems);
+        IS(e.block && at(e.list, n - 4, 4) && !e.indicated && at(e.indication, 0, 0) && e.ems);
+        READ(empty_ri, sizeof empty_ri);
+        IS(e.block && at(e.list, n - 5, 5) && e.indicated && at(e.indication, n, 0) && !e.ems);
+    }
+    n = hello(bytes, CLIENT_HELLO, empty_block, 1);
+    refused = axle_read_client_hello(bytes, n);
+    IS(refused.refusal.number == AXLE_MALFORMED && at(refused.hello.random, 0, 0) && at(refused.hello.extensions.list, 0, 0));
+}
+
+/* ---- NULL with a length of 0, in every call that is lent something ------------------------------------------------ */
+
+static void nulls(void)
+{
+    static const uint8_t abc[3] = {'a', 'b', 'c'};
+    const AxleTable table = axle_table_store(axle_table_fresh(), 1, name, 1, 1, secret, sizeof secret).table;
+    const AxleConnection fresh = axle_connection_fresh();
+    const AxleSwitches legacy = {0, 1, 1};
+    AxleDigested of_nothing = axle_sha256(NULL, 0);
+    AxleHash hash = axle_hash_absorb(axle_hash_fresh(), abc, sizeof abc).hash;
+    AxleAbsorbed more = axle_hash_absorb(hash, NULL, 0);
+    uint8_t to[128], out[1];
+    size_t n;
+    IS(of_nothing.refusal.number == AXLE_DONE && same(of_nothing.digest, axle_hash_digest(axle_hash_fresh()).bytes, 32));
+    IS(more.refusal.number == AXLE_DONE && same(axle_hash_digest(more.hash).bytes, axle_sha256(abc, sizeof abc).digest, 32));
+    IS(axle_hmac(NULL, 0, NULL, 0).refusal.number == AXLE_DONE);
+    IS(axle_extended_master_secret(NULL, 0, NULL, 0, NULL, 0).number == AXLE_LENGTH);
+    IS(axle_extended_master_secret(abc, sizeof abc, name, sizeof name, NULL, 0).number == AXLE_LENGTH);
+    IS(axle_master_secret(NULL, 0, NULL, 0, NULL, 0).number == AXLE_LENGTH);
+    IS(axle_read_client_hello(NULL, 0).refusal.number == AXLE_MALFORMED);
+    IS(axle_read_server_hello(NULL, 0).refusal.number == AXLE_MALFORMED);
+    IS(axle_table_store(table, 1, NULL, 0, 0, NULL, 0).refusal.number == AXLE_AXLE_OR_IDENTIFIER);
+    IS(axle_table_store(table, 1, name, 1, 0, NULL, 0).refusal.number == AXLE_LENGTH);
+    IS(axle_table_look_up(table, 1, NULL, 0, NULL, 0).refusal.number == AXLE_AXLE_OR_IDENTIFIER);
+    IS(axle_table_look_up(table, 2, name, 1, NULL, 0).refusal.number == AXLE_DONE);
+    IS(axle_table_look_up(table, 1, name, 1, NULL, 0).refusal.number == AXLE_LENGTH);
+    IS(axle_table_withdraw(table, 1, NULL, 0).refusal.number == AXLE_AXLE_OR_IDENTIFIER);
+    IS(axle_decide_server(NULL, 0, 1, table, fresh, legacy, NULL, 0).refusal.number == AXLE_MALFORMED);
+    n = hello(to, CLIENT_HELLO, out, 0);
+    IS(axle_decide_server(to, n, 1, table, fresh, legacy, NULL, 0).refusal.number == AXLE_DONE);
+    IS(axle_decide_client(NULL, 0, NULL, 0, 0, NULL, 0, 0, fresh, legacy).refusal.number == AXLE_MALFORMED);
+    n = hello(to, SERVER_HELLO, out, 0);
+    IS(axle_decide_client(to, n, NULL, 0, 0, NULL, 0, 0, fresh, legacy).refusal.number == AXLE_DONE);
+    IS(axle_log_accept(axle_log_fresh(), NULL, 0, 0).refusal.number == AXLE_MALFORMED);
+    IS(axle_log_check_finished(axle_log_fresh(), NULL, 0, NULL, 0).refusal.number == AXLE_LENGTH);
+    IS(axle_log_expected_finished(axle_log_fresh(), NULL, 0).refusal.number == AXLE_LENGTH);
+}
+
+/* ---- A state in place --------------------------------------------------------------------------------------------- */
+
+static void hash_in_place(void)
+{
+    static const uint8_t abc[3] = {'a', 'b', 'c'};
+    AxleHash hash = axle_hash_fresh();
+    IS(axle_hash_absorb_in(&hash, abc, 1).number == AXLE_DONE);
+    IS(axle_hash_absorb_in(&hash, abc + 1, 2).number == AXLE_DONE);
+    IS(same(axle_hash_digest(hash).bytes, axle_sha256(abc, sizeof abc).digest, AXLE_DIGEST_SIZE));
+    IS(axle_hash_absorb_in(&hash, bytes, AXLE_HASH_MAX).number == AXLE_LENGTH);
+    IS(same(axle_hash_digest(hash).bytes, axle_sha256(abc, sizeof abc).digest, AXLE_DIGEST_SIZE));
+}
+
+static void table_in_place(void)
+{
+    AxleTable table = axle_table_fresh();
+    uint8_t found[AXLE_SECRET_SIZE] = {0}, withdrawn = 7;
+    AxleLooked looked;
+    IS(axle_table_store_in(&table, 4, name, sizeof name, 1, secret, sizeof secret).number == AXLE_DONE);
+    IS(axle_table_store_in(&table, 4, name, 1, 0, found, sizeof found).number == AXLE_DONE);
+    IS(axle_table_held(table, 4).count == 2);
+    looked = axle_table_look_up(table, 4, name, sizeof name, found, sizeof found);
+    IS(looked.refusal.number == AXLE_DONE && looked.found && looked.ems && same(found, secret, sizeof secret));
+    IS(axle_table_store_in(&table, 7, name, 1, 0, secret, sizeof secret).number == AXLE_AXLE_OR_IDENTIFIER);
+    IS(axle_table_store_in(&table, 4, name, 2, 0, secret, 47).number == AXLE_LENGTH);
+    IS(axle_table_held(table, 4).count == 2);
+
+    IS(axle_table_withdraw_in(&table, 7, name, 1, &withdrawn).number == AXLE_AXLE_OR_IDENTIFIER && withdrawn == 0);
+    IS(axle_table_held(table, 4).count == 2);
+    IS(axle_table_withdraw_in(&table, 4, name, 1, &withdrawn).number == AXLE_DONE && withdrawn == 1);
+    IS(axle_table_withdraw_in(&table, 4, name, 1, &withdrawn).number == AXLE_DONE && withdrawn == 0);
+    IS(axle_table_held(table, 4).count == 1);
+    IS(axle_table_look_up(table, 4, name, sizeof name, found, sizeof found).found);
+    IS(axle_table_withdraw_in(&table, 4, name, sizeof name, NULL).number == AXLE_DONE);
+    IS(axle_table_held(table, 4).count == 0);
+
+    axle_table_store_in(&table, 1, name, 1, 0, secret, sizeof secret);
+    axle_table_store_in(&table, 6, name, 1, 0, secret, sizeof secret);
+    IS(axle_table_held(table, 1).count == 1 && axle_table_held(table, 6).count == 1);
+    IS(axle_table_clear_in(&table).number == AXLE_DONE);
+    IS(axle_table_held(table, 1).count == 0 && axle_table_held(table, 6).count == 0);
+}
+
+static void log_in_place(void)
+{
+    static const uint8_t types[] = {CLIENT_HELLO, SERVER_HELLO, HELLO_DONE, KEY_EXCHANGE};
+    AxleLog log = axle_log_fresh();
+    AxleHash hash = axle_hash_fresh();
+    AxleSessionHash session;
+    AxleExpected expected;
+    uint8_t finished[16];
+    size_t i, n;
+    for (i = 0; i < sizeof types; i++) {
+        IS(axle_log_session_hash(log).refusal.number == AXLE_OUT_OF_TURN);
+        n = message(bytes, types[i], name, i);
+        IS(axle_log_accept_in(&log, bytes, n, 0).number == AXLE_DONE);
+        axle_hash_absorb_in(&hash, bytes, n);
+        IS(i == 3 || axle_log_accept_in(&log, bytes, n, 0).number == AXLE_OUT_OF_TURN);
+    }
+    session = axle_log_session_hash(log);
+    IS(session.refusal.number == AXLE_DONE && same(session.hash, axle_hash_digest(hash).bytes, sizeof session.hash));
+
+    for (i = 0; i < 2; i++) { /* the client's Finished, then the server's */
+        expected = axle_log_expected_finished(log, secret, sizeof secret);
+        message(finished, FINISHED, expected.value, sizeof expected.value);
+        IS(axle_log_accept_in(&log, finished, sizeof finished, 0).number == AXLE_OUT_OF_TURN);
+        finished[15] ^= 1;
+        IS(axle_log_check_finished_in(&log, secret, sizeof secret, finished, sizeof finished).number == AXLE_FINISHED_DIFFERS);
+        IS(axle_log_accept_in(&log, finished, sizeof finished, 0).number == AXLE_OUT_OF_TURN);
+        finished[15] ^= 1;
+        IS(axle_log_check_finished_in(&log, secret, sizeof secret, finished, sizeof finished).number == AXLE_DONE);
+        IS(axle_log_accept_in(&log, finished, sizeof finished, 0).number == AXLE_DONE);
+    }
+    IS(axle_log_accept_in(&log, finished, sizeof finished, 0).number == AXLE_OUT_OF_TURN);
+
+    log = axle_log_fresh(); /* told that it resumes */
+    for (i = 0; i < 2; i++)
+        axle_log_accept_in(&log, bytes, message(bytes, types[i], name, 1), 1);
+    IS(axle_log_expected_finished(log, secret, sizeof secret).refusal.number == AXLE_DONE);
+}
+
+static void wiping(void)
+{
+    uint8_t some[9];
+    memset(some, 7, sizeof some);
+    axle_wipe(some, 8);
+    IS(same(some, "\0\0\0\0\0\0\0\0\7", 9));
+    axle_wipe(NULL, 0);
+}
+
+int main(void)
+{
+    versions();
+    sizes();
+    parts();
+    nulls();
+    hash_in_place();
+    table_in_place();
+    log_in_place();
+    wiping();
+    printf("%d cases, %d wrong, version %s\n", cases, wrong, AXLE_GATEWAY_VERSION);
+    return wrong != 0;
+}
