@@ -7,24 +7,21 @@ use Prim.Native.Nat.{ℕ, zero, suc, _+_, _%_, _≤_}
 use native.Mathlib.Omega.{arith}
 use lib.Dec.{eqb}
 use lib.ListN.{length, take, drop, length-drop}
-use borrow.Author.Tests.{eqb-true}
+use borrow.Author.Tests.{eqb-true, ltb-false}
 use lib.Seq.{drop-drop}
 use Rattle.seqs.specs.Pick.{pick}
-use Rattle.seqs.specs.Cases.{by-test}
 use Rattle.hello.specs.Layout.{Parse, malformed, holds, big}
-use Rattle.hello.specs.Extensions.{Extension}
-use Rattle.message.specs.Frame.{bodyOf, overlong, misstated}
-use Rattle.refusal.specs.First.{firstOf}
+use Rattle.hello.specs.Extensions.{Extension, twice}
+use Rattle.message.specs.Frame.{bodyOf, overlong}
+use Rattle.refusal.proofs.First.{first-zero}
 use Rattle.hello.specs.Fields.{Hello, fields, closing, helloNumber, readingOf, clientLayout, serverLayout}
 use Rattle.hello.specs.Places.{listPlace}
 use Rattle.hello.specs.Cuts.{wellFormedAt, listAt}
-use Rattle.hello.specs.declared.client.ClientRead.the-variants as client
-use Rattle.hello.specs.declared.server.ServerRead.the-variants as server
 use Rattle.message.proofs.Frames.{stated-long}
 use Rattle.hello.proofs.Lists.{size-of}
 use Rattle.hello.proofs.Inversions.{no-holds, field-at, vector-at, opening-at, closing-at}
 
-pub reading-zero : (n : ℕ) (p : Parse Hello) (f : Hello) → readingOf n p ≡ fields f → (n ≡ 0) × (p ≡ holds f)
+reading-zero : (n : ℕ) (p : Parse Hello) (f : Hello) → readingOf n p ≡ fields f → (n ≡ 0) × (p ≡ holds f)
 reading-zero n malformed f e = let z : _≡_ {A = ℕ} 0 1 = cc in absurd (omega arith)
 reading-zero zero (holds g) f e = (refl, cc)
 reading-zero (suc n) (holds g) f e = let z : _≡_ {A = ℕ} 0 1 = cc in absurd (omega arith)
@@ -32,18 +29,27 @@ reading-zero (suc n) (holds g) f e = let z : _≡_ {A = ℕ} 0 1 = cc in absurd 
 pub holds-same : {A : Type 0} {x y : A} → holds x ≡ holds y → y ≡ x
 holds-same e = cc
 
--- fields are those of the layout, in a message that is long enough to have a header
-pub read-layout : (kind : ℕ) (layout : List ℕ → Parse Hello) (wrong : ℕ → Bool) (m : List ℕ) (f : Hello)
-    → readingOf (helloNumber kind layout wrong m) (layout (bodyOf m)) ≡ fields f → (4 ≤ length m) × (layout (drop 4 m) ≡ holds f)
-unfolding helloNumber firstOf bodyOf
-read-layout kind layout wrong m f e =
+-- fields stand only where no test holds, in a message that is long enough to have a header
+pub record Clean (layout : List ℕ → Parse Hello) (wrong : ℕ → Bool) (m : List ℕ) (f : Hello) : Type 0 where
+  pub shortest : 4 ≤ length m
+  pub longest : length m ≤ 16388
+  pub laid : layout (drop 4 m) ≡ holds f
+  pub differ : twice (f .extensions) ≡ false
+  pub version : wrong (f .version) ≡ false
+
+pub clean : (kind : ℕ) (layout : List ℕ → Parse Hello) (wrong : ℕ → Bool) (m : List ℕ) (f : Hello)
+    → readingOf (helloNumber kind layout wrong m) (layout (bodyOf m)) ≡ fields f → Clean layout wrong m f
+unfolding helloNumber bodyOf overlong
+clean kind layout wrong m f e =
     let r = reading-zero (helloNumber kind layout wrong m) (layout (bodyOf m)) f e in
-    by-test (overlong m)
-    (λ p. let z : _≡_ {A = ℕ} 10 0 = rw p at (r .0) in absurd (omega arith))
-    (λ p.
-    by-test (misstated m)
-    (λ q. let z : _≡_ {A = ℕ} 1 0 = rw (p, q) at (r .0) in absurd (omega arith))
-    (λ q. (stated-long m q, r .1)))
+    let z = first-zero _ refl (r .0) in
+    record {
+      shortest = stated-long m (z .1 .0);
+      longest = ltb-false 16388 (length m) (z .0);
+      laid = r .1;
+      differ = rw (r .1) at (z .1 .1 .1 .1 .0);
+      version = rw (r .1) at (z .1 .1 .1 .1 .1 .0);
+    }
 
 pick-holds : {A : Type 0} (b : Bool) (x : Parse A) (y : A) → pick b x malformed ≡ holds y → (b ≡ true) × (x ≡ holds y)
 pick-holds true x y e = (refl, e)

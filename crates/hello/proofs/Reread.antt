@@ -17,7 +17,7 @@ use Rattle.hello.specs.Fields.{Hello, fields, listed, closing, serverLay
 use Rattle.hello.specs.Written.{twoBytes, writtenList, writtenBlock, Shaped, behindMethod}
 use Rattle.hello.proofs.Vectors.{field-yes}
 use Rattle.hello.proofs.Lists.{fuel, size-of}
-use Rattle.hello.proofs.Laid.{read-layout, holds-same, serverFields, server-front, server-parts}
+use Rattle.hello.proofs.Laid.{clean, holds-same, serverFields, server-front, server-parts}
 
 two-back : (n : ℕ) → big (twoBytes n) ≡ n
 unfolding big
@@ -68,8 +68,8 @@ ems-shaped = refl
 pub carried : (m : List ℕ) (h : Hello) (es : List Extension) → readServer m ≡ fields h → behindMethod m h ≡ writtenBlock es → Shaped es → h .extensions ≡ es
 unfolding readServer
 carried m h es e w s =
-    let r = read-layout 2 serverLayout serverVersion m h e in
-    let g = server-front m h (r .0) (r .1) in
+    let r = clean 2 serverLayout serverVersion m h e in
+    let g = server-front m h (r .shortest) (r .laid) in
     let k : length (h .identifier) ≡ g .i = ap (λ (x : Hello). length (x .identifier)) (server-parts m h g .is) ∙ size-of m 39 (g .i) (omega (arith, g .whole)) in
     let x : writtenBlock es ≡ drop (39 + g .i + 3) m = sym w ∙ ap (λ (n : ℕ). drop (39 + n + 3) m) k in
     let then : Bool → List Extension → Parse Hello = λ b l. holds (serverFields m (g .i) b l) in
