@@ -17,7 +17,7 @@ use Rattle.refusal.specs.Table.{refusalOf}
 use Rattle.refusal.proofs.First.{first-zero, first-within}
 use Rattle.refusal.specs.declared.Refusal.{Refusal}
 use Rattle.hello.specs.Extensions.{riKind}
-use Rattle.hello.specs.Fields.{Hello, Reading, fields, fault, isMalformed, helloNumber, readingOf, clientLayout, serverLayout, clientVersion, serverVersion, readClient, readServer}
+use Rattle.hello.specs.Fields.{Hello, Reading, fields, fault, isMalformed, helloNumber, readingOf, clientLayout, serverLayout, wrongClientVersion, wrongServerVersion, readClient, readServer}
 use Rattle.hello.specs.Places.{sizeOf, bytesPart, listPlace, extensionsAt, clientPlaces, serverPlaces, clientAnswer, serverAnswer}
 use Rattle.hello.specs.Cuts.{wellFormedAt, listAt}
 use Rattle.hello.specs.Learnt.{ExtensionsLearnt, ClientLearnt, ServerLearnt}
@@ -54,7 +54,7 @@ extensions-learnt m block i h w =
 client-fields : (m : List ℕ) (h : ClientHello) (f : Hello) → readClient m ≡ fields f → h ≡ clientPlaces f → ClientLearnt m h
 unfolding readClient clientPlaces
 client-fields m h f e q =
-    let r = clean 1 clientLayout clientVersion m f e in
+    let r = clean 1 clientLayout wrongClientVersion m f e in
     let p = client-parts m f (r .shortest) (r .laid) in
     let l : length (take (p .i) (drop 39 m)) ≡ p .i = size-of m 39 (p .i) (omega (arith, p .whole)) in
     let n : length (take (p .s) (drop (39 + p .i + 2) m)) ≡ p .s = size-of m (39 + p .i + 2) (p .s) (omega (arith, p .whole)) in
@@ -88,7 +88,7 @@ client-fields m h f e q =
 server-fields : (m : List ℕ) (h : ServerHello) (f : Hello) → readServer m ≡ fields f → h ≡ serverPlaces f → ServerLearnt m h
 unfolding readServer serverPlaces
 server-fields m h f e q =
-    let r = clean 2 serverLayout serverVersion m f e in
+    let r = clean 2 serverLayout wrongServerVersion m f e in
     let g = server-front m f (r .shortest) (r .laid) in
     let p = server-parts m f g in
     let l : length (take (g .i) (drop 39 m)) ≡ g .i = size-of m 39 (g .i) (omega (arith, g .whole)) in
@@ -165,7 +165,7 @@ client-fault m x e = go (readClient m) refl e
   where
     go : (r : Reading) → readClient m ≡ r → client.Refused x ≡ clientAnswer r → Faulted (readClient m) x
     go (fields f) p q = let z : _≡_ {A = ℕ} 0 1 = cc in absurd (omega arith)
-    go (fault n) p q = faulted 1 clientLayout clientVersion m n x p (cc)
+    go (fault n) p q = faulted 1 clientLayout wrongClientVersion m n x p (cc)
 
 pub server-fault : (m : List ℕ) (x : Refusal) → server.Refused x ≡ serverAnswer (readServer m) → Faulted (readServer m) x
 unfolding serverAnswer readServer
@@ -173,4 +173,4 @@ server-fault m x e = go (readServer m) refl e
   where
     go : (r : Reading) → readServer m ≡ r → server.Refused x ≡ serverAnswer r → Faulted (readServer m) x
     go (fields f) p q = let z : _≡_ {A = ℕ} 0 1 = cc in absurd (omega arith)
-    go (fault n) p q = faulted 2 serverLayout serverVersion m n x p (cc)
+    go (fault n) p q = faulted 2 serverLayout wrongServerVersion m n x p (cc)

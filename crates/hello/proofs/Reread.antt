@@ -13,7 +13,7 @@ use Rattle.seqs.specs.Pick.{pick}
 use Rattle.message.specs.Numbers.{byteAt}
 use Rattle.hello.specs.Layout.{Parse, malformed, holds, big, counted}
 use Rattle.hello.specs.Extensions.{Extension, riKind, emsKind, shaped, extension, listOf, extensionsOf}
-use Rattle.hello.specs.Fields.{Hello, fields, listed, closing, serverLayout, serverVersion, readServer}
+use Rattle.hello.specs.Fields.{Hello, fields, listed, closing, serverLayout, wrongServerVersion, readServer}
 use Rattle.hello.specs.Written.{twoBytes, writtenList, writtenBlock, Shaped, behindMethod}
 use Rattle.hello.proofs.Vectors.{field-yes}
 use Rattle.hello.proofs.Lists.{fuel, size-of}
@@ -68,7 +68,7 @@ ems-shaped = refl
 pub carried : (m : List ℕ) (h : Hello) (es : List Extension) → readServer m ≡ fields h → behindMethod m h ≡ writtenBlock es → Shaped es → h .extensions ≡ es
 unfolding readServer
 carried m h es e w s =
-    let r = clean 2 serverLayout serverVersion m h e in
+    let r = clean 2 serverLayout wrongServerVersion m h e in
     let g = server-front m h (r .shortest) (r .laid) in
     let k : length (h .identifier) ≡ g .i = ap (λ (x : Hello). length (x .identifier)) (server-parts m h g .is) ∙ size-of m 39 (g .i) (omega (arith, g .whole)) in
     let x : writtenBlock es ≡ drop (39 + g .i + 3) m = sym w ∙ ap (λ (n : ℕ). drop (39 + n + 3) m) k in

@@ -79,12 +79,12 @@ signalIn (a ∷ []) = false
 signalIn (a ∷ b ∷ rest) = eqb (256 * a + b) 255 || signalIn rest
 
 -- 'A ClientHello below 03 03 is 3, higher ones pass'
-abbrev pub clientVersion : ℕ → Bool
-clientVersion v = ltb v 771
+abbrev pub wrongClientVersion : ℕ → Bool
+wrongClientVersion v = ltb v 771
 
 -- 'a ServerHello must say 03 03'
-abbrev pub serverVersion : ℕ → Bool
-serverVersion v = not (eqb v 771)
+abbrev pub wrongServerVersion : ℕ → Bool
+wrongServerVersion v = not (eqb v 771)
 
 -- a test of the fields, where there are fields
 abbrev pub among : Parse Hello → (Hello → Bool) → Bool
@@ -95,16 +95,17 @@ abbrev pub isMalformed : {A : Type 0} → Parse A → Bool
 isMalformed malformed = true
 isMalformed (holds f) = false
 
--- the number of a message that is to be of the type kind and of that layout: 10, 1, 2, 3. 'The wrong type is 1.'
+-- the number of a message that is to be of the type kind and of that layout, with a version that is not wrong: 10, 1, 2, 3. 'The
+-- wrong type is 1.'
 unfoldable pub helloNumber : ℕ → (List ℕ → Parse Hello) → (ℕ → Bool) → List ℕ → ℕ
-helloNumber kind layout version m =
+helloNumber kind layout wrong m =
     firstOf
     ((10, overlong m)
     ∷ (1, misstated m)
     ∷ (1, not (eqb (kindOf m) kind))
     ∷ (1, isMalformed (layout (bodyOf m)))
     ∷ (2, among (layout (bodyOf m)) (λ f. twice (f .extensions)))
-    ∷ (3, among (layout (bodyOf m)) (λ f. version (f .version)))
+    ∷ (3, among (layout (bodyOf m)) (λ f. wrong (f .version)))
     ∷ [])
 
 -- what reading a hello answers
@@ -119,8 +120,8 @@ readingOf (suc n) (holds f) = fault (suc n)
 
 -- ClientHello, type 1
 unfoldable pub readClient : List ℕ → Reading
-readClient m = readingOf (helloNumber 1 clientLayout clientVersion m) (clientLayout (bodyOf m))
+readClient m = readingOf (helloNumber 1 clientLayout wrongClientVersion m) (clientLayout (bodyOf m))
 
 -- ServerHello, type 2
 unfoldable pub readServer : List ℕ → Reading
-readServer m = readingOf (helloNumber 2 serverLayout serverVersion m) (serverLayout (bodyOf m))
+readServer m = readingOf (helloNumber 2 serverLayout wrongServerVersion m) (serverLayout (bodyOf m))
