@@ -162,11 +162,11 @@ typedef struct {
     uint8_t size;
     uint8_t identifier[32];
     uint8_t secret[48];
-} AxleRow;
+} AxleEntry;
 
 /* The sessions of all six axles, at most 8 an axle and 32 in all. */
 typedef struct {
-    AxleRow rows[32];
+    AxleEntry entries[32];
     size_t len;
 } AxleTable;
 

@@ -139,12 +139,12 @@ read_server_hello = declare("axle_read_server_hello", ServerReading, BYTES)
 # The session table
 
 
-class Row(c.Structure):
+class Entry(c.Structure):
     _fields_ = [("axle", u8), ("ems", u8), ("size", u8), ("identifier", u8 * 32), ("secret", u8 * 48)]
 
 
 class Table(c.Structure):
-    _fields_ = [("rows", Row * 32), ("len", size)]
+    _fields_ = [("entries", Entry * 32), ("len", size)]
 
 
 class Stored(c.Structure):

@@ -15,7 +15,7 @@ import time
 
 sys.path.insert(0, str(pathlib.Path(__file__).resolve().parent.parent))
 
-from tests import face, hellos  # noqa: E402
+from tests import face, hellos, values  # noqa: E402
 
 PAGE = mmap.PAGESIZE
 LONGEST = 16_390
@@ -51,44 +51,50 @@ class Guarded:
         return not (before + after).strip(bytes([self.fill]))
 
 
-def some_bytes(r):
-    way = r.randrange(8)
-    if way == 0:
-        return r.randbytes(r.choice((0, 1, 3, 4, 12, 31, 32, 33, 47, 48, 49, 63, 64, 65)))
-    if way == 1:
+def some_bytes(r, short):
+    """Bytes that a call may get past its first test with: known lengths, short ones that were lent before, messages."""
+    way = r.randrange(12)
+    if way < 4:
+        return r.randbytes(r.choice((0, 0, 1, 3, 4, 12, 31, 32, 32, 33, 47, 48, 48, 48, 49, 63, 64, 65)))
+    if way == 4 and short:
+        return r.choice(short)
+    if way == 5:
         return r.randbytes(r.randrange(300))
-    if way == 2:
+    if way == 6:
         return r.randbytes(r.choice((16_387, 16_388, 16_389, 512, 513)))
-    if way == 3:
-        return hellos.message(r.randrange(22), r.randbytes(r.choice((0, 12, 40))))
+    if way == 7:
+        return hellos.message(r.choice((0, 1, 2, 11, 14, 16, 20, 20, 20, r.randrange(256))), r.randbytes(r.choice((0, 12, 12, 40))))
     whole = hellos.some(r)
-    return whole if way < 6 else hellos.damaged(r, whole)[:LONGEST]
+    return whole if way < 11 else hellos.damaged(r, whole)[:LONGEST]
 
 
-def soak(seconds, seed):
-    """How many calls were made."""
+def soak(seconds, seed, calls=float("inf")):
+    """How many calls were made, and the numbers that each was answered."""
     r = random.Random(seed)
     pages = [Guarded() for _ in range(3)]
     kept = {}  # structs that calls answered, to be handed in again
-    made = 0
+    short = []  # the last short slices that were lent
+    made, numbers = 0, {}
     end = time.monotonic() + seconds
     names = sorted(face.CALLS)
-    while time.monotonic() < end:
+    while made < calls and time.monotonic() < end:
         name = r.choice(names)
         f, kinds = face.CALLS[name]
         passed, lent, records = [], [], []
         for kind in kinds:
             if isinstance(kind, tuple):
                 page = pages[len(lent)]
-                data = some_bytes(r)
+                data = lent[-1][2] if lent and r.random() < 0.2 else some_bytes(r, short)
+                if len(data) <= 64:
+                    short.append(data)
+                    del short[:-20]
                 place = page.lay(data, r.random() < 0.5)
                 passed += [c.c_void_p(place if data or r.random() < 0.5 else None), len(data)]  # no bytes: any pointer, NULL too
                 lent.append((page, kind is face.LENT, data))
             elif issubclass(kind, c.Structure):
-                fresh = kind.from_buffer_copy(r.randbytes(c.sizeof(kind)))
-                passed.append(r.choice(kept[kind]) if kind in kept and r.random() < 0.7 else fresh)
+                passed.append(r.choice(kept[kind]) if kind in kept and r.random() < 0.7 else values.some(r, kind))
             elif issubclass(kind, c._Pointer):
-                record = kind._type_.from_buffer_copy(r.randbytes(c.sizeof(kind._type_)))
+                record = values.some(r, kind._type_)
                 records.append((record, bytes(record)))
                 passed.append(c.byref(record))
             else:
@@ -101,6 +107,7 @@ def soak(seconds, seed):
         refusal = getattr(answer, "refusal", answer if isinstance(answer, face.Refusal) else None)
         if refusal is not None and name != "axle_refusal":
             assert refusal.number in TABLE_NUMBERS, (name, refusal.number)
+            numbers.setdefault(name, set()).add(refusal.number)
         refused = refusal is not None and refusal.number and name != "axle_refusal"
         if refused:  # the state is the one that was passed, and a lent record is as it was
             for state in (s for s in passed if isinstance(s, c.Structure)):
@@ -119,10 +126,10 @@ def soak(seconds, seed):
         if isinstance(answer, c.Structure):
             kept.setdefault(type(answer), []).append(answer)
             del kept[type(answer)][:-50]
-    return made
+    return made, numbers
 
 
 if __name__ == "__main__":
     seconds = float(sys.argv[1]) if len(sys.argv) > 1 else 600
     seed = int(sys.argv[2]) if len(sys.argv) > 2 else 1
-    print(f"{soak(seconds, seed)} calls in {seconds:.0f} s, seed {seed}: nothing read or written outside, every call ended")
+    print(f"{soak(seconds, seed)[0]} calls in {seconds:.0f} s, seed {seed}: nothing read or written outside, every call ended")

@@ -4,7 +4,7 @@ import hashlib
 import random
 
 from oracle import secrets
-from tests import face
+from tests import face, values
 
 # FIPS 180-4's examples (NIST, SHA256.pdf and the long message of FIPS 180-2): message, digest
 PUBLISHED = [
@@ -90,12 +90,18 @@ def test_random_runs():
 
 
 def test_any_struct_value_ends():
-    """A struct that no run of calls made: every answer is of the table, and a refusal changes nothing."""
+    """A struct that no run of calls made: the number goes by the length, and a refusal changes nothing."""
     r = random.Random(5)
+    seen = set()
     for _ in range(2000):
-        h = type(face.hash_fresh()).from_buffer_copy(r.randbytes(face.sizeof_hash))
+        h = values.some(r, face.Hash)
         face.hash_digest(h)
-        answer = face.hash_absorb(h, r.randbytes(r.randrange(200)))
-        assert answer.refusal.number in (0, 10)
+        part = r.randbytes(r.randrange(200))
+        answer = face.hash_absorb(h, part)
+        assert answer.refusal.number == (10 if h.length + len(part) > secrets.HASH_LIMIT else 0)
+        seen.add(answer.refusal.number)
         if answer.refusal.number:
             assert face.plain(answer.hash) == face.plain(h)
+        else:
+            assert answer.hash.length == h.length + len(part)
+    assert seen == {0, 10}

@@ -5,7 +5,7 @@ import random
 
 from oracle import numbers, secrets
 from oracle.log import Log as Oracle
-from tests import face, hellos
+from tests import face, hellos, values
 from tests.handshakes import full_and_resumed
 
 TYPES = (0, 1, 2, 11, 12, 13, 14, 15, 16, 20, 99)
@@ -242,13 +242,18 @@ def test_real_handshakes():
 
 
 def test_any_struct_value_ends():
+    """A log that no run of calls made: every number is one of the call's, and a refusal changes nothing."""
     r = random.Random(3)
-    for _ in range(1000):
-        log = face.Log.from_buffer_copy(r.randbytes(face.sizeof_log))
-        m = hellos.message(r.choice(TYPES), r.randbytes(r.choice((0, 12, 100))))
-        for answer in (face.log_accept(log, m, r.randrange(256)), face.log_check_finished(log, SECRET, m)):
-            assert answer.refusal.number in (0, 1, 7, 8, 10)
+    seen = {}
+    for _ in range(4000):
+        log = values.some(r, face.Log)
+        value = r.choice((bytes(log.value), bytes(face.log_expected_finished(log, SECRET).value), r.randbytes(12)))
+        m = r.choice((hellos.message(20, value), hellos.message(r.choice(TYPES), r.randbytes(r.choice((0, 12, 100))))))
+        m = hellos.damaged(r, m) if r.random() < 0.2 else m
+        for answer in (face.log_accept(log, m, r.randrange(256)), face.log_check_finished(log, r.choice((SECRET, SECRET[1:])), m)):
+            seen.setdefault(type(answer), set()).add(answer.refusal.number)
             if answer.refusal.number:
                 assert face.plain(answer.log) == face.plain(log)
-        face.log_session_hash(log)
-        face.log_expected_finished(log, SECRET)
+        seen.setdefault(face.SessionHash, set()).add(face.log_session_hash(log).refusal.number)
+        seen.setdefault(face.Expected, set()).add(face.log_expected_finished(log, SECRET).refusal.number)
+    assert seen == {face.Accepted: {0, 1, 7, 10}, face.Checked: {0, 1, 7, 8, 10}, face.SessionHash: {0, 7}, face.Expected: {0, 7}}, seen

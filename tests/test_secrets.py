@@ -49,6 +49,8 @@ def test_rfc_4231():
         expected = bytes.fromhex(tag)
         number, got = tagged(key, data)
         assert number == (0, 0, 0) and got[: len(expected)] == expected
+        assert secrets.hmac(key, data)[1][: len(expected)] == expected
+        agree(key, data)
 
 
 def test_lengths_of_key_and_message():

@@ -4,7 +4,7 @@ import random
 
 from oracle import numbers
 from oracle.book import Book
-from tests import face
+from tests import face, values
 
 SECRET = bytes(range(48))
 PATTERN = bytes((i * 29 + 5) % 256 for i in range(80))
@@ -168,9 +168,13 @@ def test_100_000_random_calls():
 def test_any_struct_value_ends():
     """A table that no run of calls made: every answer is a number of the call's, and a refusal changes nothing."""
     r = random.Random(2)
-    for _ in range(300):
-        t = face.Table.from_buffer_copy(r.randbytes(face.sizeof_table))
+    seen = {"found": set(), "withdrawn": set(), "held": set()}
+    for _ in range(600):
+        t = values.some(r, face.Table)
         axle, identifier = r.randrange(8), r.randbytes(r.randrange(34))
+        if r.random() < 0.5:
+            entry = t.entries[r.randrange(8)]
+            axle, identifier = entry.axle, bytes(entry.identifier)[: entry.size]
         for answer in (
             face.table_store(t, axle, identifier, 1, SECRET[: r.choice((47, 48))]),
             face.table_withdraw(t, axle, identifier),
@@ -178,6 +182,9 @@ def test_any_struct_value_ends():
             assert answer.refusal.number in (0, 10, 11)
             if answer.refusal.number:
                 assert bytes(answer.table) == bytes(t)
-        face.table_held(t, axle)
-        face.table_look_up(t, axle, identifier, face.lend(bytes(r.randrange(60))))
+        looked = face.table_look_up(t, axle, identifier, face.lend(bytes(r.randrange(60))))
+        seen["found"].add((looked.refusal.number, looked.found))
+        seen["withdrawn"].add(answer.withdrawn)
+        seen["held"].add(min(face.table_held(t, axle).count, 2))
         assert face.table_clear(t).refusal.number == 0
+    assert seen == {"found": {(0, 0), (0, 1), (10, 0), (11, 0)}, "withdrawn": {0, 1}, "held": {0, 1, 2}}, seen

@@ -102,7 +102,7 @@ pub struct ServerReading {
 
 #[repr(C)]
 #[derive(Clone, Copy)]
-pub struct Row {
+pub struct Entry {
     pub axle: u8,
     pub ems: u8,
     pub size: u8,
@@ -113,7 +113,7 @@ pub struct Row {
 #[repr(C)]
 #[derive(Clone, Copy)]
 pub struct Table {
-    pub rows: [Row; 32],
+    pub entries: [Entry; 32],
     pub len: usize,
 }
 

@@ -5,7 +5,7 @@ use mathlib.Core.Bool.{Bool, true, false, not, _||_}
 use mathlib.Core.List.{List, [], _∷_, _++_}
 use mathlib.Core.Logic.{_⊎_, inl, inr, ⊎-elim}
 use mathlib.Core.Option.{Option, none, some}
-use Prim.Native.Nat.{ℕ}
+use Prim.Native.Nat.{ℕ, _≤_}
 use native.Mathlib.Omega.{arith}
 use lib.Dec.{eqb}
 use lib.ListN.{length}
@@ -18,13 +18,13 @@ use Rattle.octets.specs.Same.{same}
 use Rattle.sessions.specs.Book.{Book, sought, badAxle}
 use Rattle.hello.specs.Extensions.{Extension, has, contentOf, indicationOf, emsOf, othersOf}
 use Rattle.hello.specs.Fields.{Hello, Reading, fields, readServer}
-use Rattle.hello.specs.Written.{riHolding, emsExtension, writtenBlock, Shaped}
+use Rattle.hello.specs.Written.{behindMethod, riHolding, emsExtension, writtenBlock, Shaped}
 use Rattle.hello.proofs.Reread.{carried, ri-shaped, ems-shaped}
-use Rattle.decision.specs.Connection.{later, closed, wrongFirst, Outcome, fullEms, resumedEms, withEms, decided, decision}
+use Rattle.decision.specs.Connection.{later, closed, wrongFirst, Outcome, fullEms, resumedEms, usesEms, decided, decision}
 use Rattle.decision.specs.Reply.{replyList, replyOf, offerOf, offerTurned}
-use Rattle.decision.specs.Server.{Asked, asked, faulty, emsFound, sessionIn, serverFlag, serverOutcome, serverReply, serverNumber, serverDecision}
+use Rattle.decision.specs.Server.{Asked, asked, faulty, Original, originalOf, sessionIn, serverFlag, resumable, serverOutcome, serverReply, serverNumber, serverDecision}
 use Rattle.decision.specs.Client.{Told, told, Lent, lentEms, badOffer, clientWrong, clientFlag, clientResumes, resumption, fullness, clientOutcome, clientNumber, clientDecision}
-use Rattle.decision.specs.Agreement.{OurHello, Exchange, Agree, ReplyRule}
+use Rattle.decision.specs.Agreement.{OurHello, SameSession, Agree}
 use Rattle.decision.specs.declared.connection.Connection.{Connection}
 use Rattle.decision.specs.declared.connection.Switches.{Switches}
 use Rattle.decision.specs.declared.connection.Decision.{Decision}
@@ -75,7 +75,7 @@ reply-shaped c = (ri-shaped (held c), (ems-shaped, tt))
 -- ---- the client's tests, on what the reply tells
 
 module _ (c : Connection) (s : Switches) (t : Told) (ri : t .ri ≡ some (held c)) where
-  right : clientWrong c s t ≡ false
+  right : clientWrong c s (t .ri) ≡ false
   unfolding clientWrong wrongFirst
   right = rw ri (go (later c))
     where
@@ -100,7 +100,7 @@ decision-of : (n : ℕ) (x : Option Outcome) (o : Outcome) (flag : Bool) (size :
 unfolding decision
 decision-of n x o flag size e f g = rw (e, f, g)
 
-module _ (axle : ℕ) (b : Book) (c : Connection) (s : Switches) (r : Reading) (out : List ℕ) (k : Option Bool) where
+module _ (axle : ℕ) (b : Book) (c : Connection) (s : Switches) (r : Reading) (out : List ℕ) (k : Option Original) where
   -- a server that accepts is not closed
   open-still : (h : Hello) → r ≡ fields h → serverNumber axle r k c s out ≡ 0 → closed c ≡ false
   unfolding serverNumber firstOf
@@ -117,31 +117,51 @@ module _ (axle : ℕ) (b : Book) (c : Connection) (s : Switches) (r : Reading) (
   number-zero e = sym (decision-number _ _ _ _) ∙ e
 
 -- EMS is always used, since our hello has it
-outcome-ems : (s : Switches) (k : Option Bool) → (serverOutcome s k true ≡ some fullEms) ⊎ ((k ≡ some true) × (serverOutcome s k true ≡ some resumedEms))
-unfolding serverOutcome
+outcome-ems : (s : Switches) (k : Option Original)
+    → (serverOutcome s k true ≡ some fullEms) ⊎ ((k ≡ some (record { ems = true })) × (serverOutcome s k true ≡ some resumedEms))
+unfolding serverOutcome resumable
 outcome-ems s none = inl refl
-outcome-ems s (some false) = inl refl
-outcome-ems s (some true) = inr (refl, refl)
+outcome-ems s (some k) = go (k .ems)
+  where
+    go : (e : Bool) → (resumable s e true ≡ some fullEms) ⊎ ((_≡_ {A = Option Original} (some (record { ems = e })) (some (record { ems = true }))) × (resumable s e true ≡ some resumedEms))
+    go false = inl refl
+    go true = inr (refl, refl)
 
 -- the client's outcome, where the server's is o
 module _ (s′ : Switches) (i : List ℕ) (l : Option Lent) (t : Told) (ems : t .ems ≡ true) where
-  client-full : clientResumes i t ≡ false → clientOutcome s′ i l t ≡ some fullEms
+  client-full : clientResumes i t ≡ false → clientOutcome s′ i (lentEms l) t ≡ some fullEms
   unfolding clientOutcome fullness
   client-full h = rw (h, ems)
 
-  client-resumed : clientResumes i t ≡ true → lentEms l ≡ true → clientOutcome s′ i l t ≡ some resumedEms
+  client-resumed : clientResumes i t ≡ true → lentEms l ≡ true → clientOutcome s′ i (lentEms l) t ≡ some resumedEms
   unfolding clientOutcome resumption
   client-resumed h k = rw (h, ems, k)
 
 -- the client's number is 0
 client-zero : (c : Connection) (s′ : Switches) (r : Reading) (h : Hello) (i : List ℕ) (l : Option Lent) (o : Outcome) → r ≡ fields h → badOffer i l ≡ false
-    → told r .others ≡ false → closed c ≡ false → clientWrong c s′ (told r) ≡ false → clientOutcome s′ i l (told r) ≡ some o → clientNumber r i l c s′ ≡ 0
+    → told r .others ≡ false → closed c ≡ false → clientWrong c s′ (told r .ri) ≡ false → clientOutcome s′ i (lentEms l) (told r) ≡ some o → clientNumber r i l c s′ ≡ 0
 unfolding clientNumber firstOf
 client-zero c s′ r h i l o e f g k w q =
     let y : faulty r ≡ false = ap faulty e in
     rw (f, y, g, k, w, q)
 
--- ---- the rule
+-- ---- the rule, over the definitions alone: r is the server's reading, and the ServerHello m carries the reply of the definition
+
+pub record Answers (axle : ℕ) (b : Book) (c : Connection) (s : Switches) (r : Reading) (out : List ℕ) (i : List ℕ) (l : Option Lent) (m : List ℕ) : Type 0 where
+  pub asks : Hello
+  pub reads : r ≡ fields asks
+  pub ours : OurHello c i asks
+  pub short : length i ≤ 32
+  pub shares : SameSession axle b i l
+  pub accepts : serverDecision axle r (sessionIn axle r b) c s out .refusal .number ≡ 0
+  pub answer : Hello
+  pub answered : readServer m ≡ fields answer
+  pub carries : behindMethod m answer ≡ serverReply c s (sessionIn axle r b) (asked r)
+  pub repeats : (length i ≡ 0 → ⊥) → same (answer .identifier) i ≡ yes (serverDecision axle r (sessionIn axle r b) c s out .resumes)
+
+abbrev usedIn : Option Original → Bool
+usedIn none = false
+usedIn (some k) = k .ems
 
 flag-set : (c : Connection) (a : Asked) (v : List ℕ) → a .ri ≡ some v → serverFlag c a ≡ true
 unfolding serverFlag
@@ -152,8 +172,8 @@ flag-set c a v e = rw e (go (later c) (a .signal))
     go false true = refl
     go false false = refl
 
-module _ (axle : ℕ) (b : Book) (c : Connection) (s s′ : Switches) (r : Reading) (out i : List ℕ) (l : Option Lent) (m : List ℕ) (x : Exchange axle b c s r out i l m) where
-  abbrev session : Option Bool
+module _ (axle : ℕ) (b : Book) (c : Connection) (s s′ : Switches) (r : Reading) (out i : List ℕ) (l : Option Lent) (m : List ℕ) (x : Answers axle b c s r out i l m) where
+  abbrev session : Option Original
   session = sessionIn axle r b
 
   zero : serverNumber axle r session c s out ≡ 0
@@ -176,8 +196,8 @@ module _ (axle : ℕ) (b : Book) (c : Connection) (s s′ : Switches) (r : Readi
   server-resumes o e = ap (λ (d : Decision). yes (d .resumes)) (server-is o e) ∙ yes-bit (o .resumes)
 
   -- the reply has RI and EMS, and the ServerHello has what the reply has
-  uses : withEms (serverOutcome s session (asked r .ems)) ≡ true
-  uses = ap (λ (e : Bool). withEms (serverOutcome s session e)) asks-ems ∙ ⊎-elim (λ e. ap withEms e) (λ e. ap withEms (e .1)) (outcome-ems s session)
+  uses : usesEms (serverOutcome s session (asked r .ems)) ≡ true
+  uses = ap (λ (e : Bool). usesEms (serverOutcome s session e)) asks-ems ∙ ⊎-elim (λ e. ap usesEms e) (λ e. ap usesEms (e .1)) (outcome-ems s session)
 
   carries : x .answer .extensions ≡ replied c
   unfolding serverReply
@@ -203,11 +223,11 @@ module _ (axle : ℕ) (b : Book) (c : Connection) (s s′ : Switches) (r : Readi
   unfolding badOffer
   good-offer =
       by-test (eqb (length i) 0)
-      (λ p. rw (le-ltb 32 (length i) (x .shares .short), p))
-      (λ p. rw (le-ltb 32 (length i) (x .shares .short), p, x .shares .client (eqb-false _ _ p), same-self i))
+      (λ p. rw (le-ltb 32 (length i) (x .short), p))
+      (λ p. rw (le-ltb 32 (length i) (x .short), p, x .shares .client (eqb-false _ _ p), same-self i))
 
   -- both decisions, where both outcomes are o
-  agree : (o : Outcome) → serverOutcome s session true ≡ some o → clientOutcome s′ i l tells ≡ some o
+  agree : (o : Outcome) → serverOutcome s session true ≡ some o → clientOutcome s′ i (lentEms l) tells ≡ some o
       → Agree (serverDecision axle r session c s out) (clientDecision (readServer m) i l c s′)
   unfolding clientDecision decided
   agree o e f =
@@ -228,7 +248,7 @@ module _ (axle : ℕ) (b : Book) (c : Connection) (s s′ : Switches) (r : Readi
       let z : length (x .asks .identifier) ≡ 0 = ap length (x .ours .identifier) ∙ h in
       rw (x .reads, eq-eqb (length (x .asks .identifier)) 0 z)
 
-  found : (length i ≡ 0 → ⊥) → session ≡ emsFound (sought axle i b)
+  found : (length i ≡ 0 → ⊥) → session ≡ originalOf (sought axle i b)
   unfolding sessionIn
   found h =
       let z : length (x .asks .identifier) ≡ length i = ap length (x .ours .identifier) in
@@ -243,21 +263,22 @@ module _ (axle : ℕ) (b : Book) (c : Connection) (s s′ : Switches) (r : Readi
       agree fullEms e
       (client-full s′ i l tells tells-ems (by-test (eqb (length i) 0) unnamed (λ p. names fullEms e (eqb-false _ _ p))))
 
-  resumed : session ≡ some true → serverOutcome s session true ≡ some resumedEms → Agree (serverDecision axle r session c s out) (clientDecision (readServer m) i l c s′)
+  resumed : session ≡ some (record { ems = true }) → serverOutcome s session true ≡ some resumedEms → Agree (serverDecision axle r session c s out) (clientDecision (readServer m) i l c s′)
   resumed k e =
       let h : length i ≡ 0 → ⊥ = λ z. different (sym k ∙ empty-none z) in
       agree resumedEms e
       (client-resumed s′ i l tells tells-ems (names resumedEms e h)
       (ap lentEms (x .shares .client h) ∙ ⊎-elim (λ q. absurd (different (sym k ∙ found h ∙ q))) (λ q. same-ems (sym k ∙ found h ∙ q)) (x .shares .server h)))
     where
-      different : _≡_ {A = Option Bool} (some true) none → ⊥
+      different : _≡_ {A = Option Original} (some (record { ems = true })) none → ⊥
       different q = let z : _≡_ {A = ℕ} 0 1 = cc in omega arith
 
-      same-ems : some true ≡ some (x .shares .ems) → x .shares .ems ≡ true
-      same-ems q = cc
+      same-ems : _≡_ {A = Option Original} (some (record { ems = true })) (some (record { ems = x .shares .ems })) → x .shares .ems ≡ true
+      same-ems q = sym (ap usedIn q)
 
-pub reply-rule : ReplyRule
-reply-rule axle b c s s′ r out i l m x =
+pub answers-agree : (axle : ℕ) (b : Book) (c : Connection) (s s′ : Switches) (r : Reading) (out i : List ℕ) (l : Option Lent) (m : List ℕ)
+    → Answers axle b c s r out i l m → Agree (serverDecision axle r (sessionIn axle r b) c s out) (clientDecision (readServer m) i l c s′)
+answers-agree axle b c s s′ r out i l m x =
     ⊎-elim
     (λ e. full axle b c s s′ r out i l m x e)
     (λ e. resumed axle b c s s′ r out i l m x (e .0) (e .1))

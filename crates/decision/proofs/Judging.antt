@@ -14,10 +14,10 @@ use Rattle.seqs.specs.Cases.{by-test}
 use Rattle.refusal.specs.First.{firstOf}
 use Rattle.refusal.specs.Table.{refusalOf}
 use Rattle.octets.specs.Put.{putList, putNumber}
-use Rattle.decision.specs.Connection.{later, closed, present, Outcome, forbidden, withEms, refusedBy, decision}
+use Rattle.decision.specs.Connection.{later, closed, present, Outcome, forbidden, usesEms, refusing, refusedBy, decision}
 use Rattle.decision.specs.Reply.{replyOf}
-use Rattle.decision.specs.Server.{Asked, serverWrong, serverFlag, serverOutcome, serverReply}
-use Rattle.decision.specs.Steps.{riOf, askedOf, serverTurn, refusing, decidedIn, plainNumber, Plain}
+use Rattle.decision.specs.Server.{Asked, Original, serverWrong, serverFlag, serverOutcome, serverReply}
+use Rattle.decision.specs.Steps.{riOf, askedOf, serverIndication, decidedIn, plainNumber, Plain}
 use Rattle.decision.specs.declared.connection.Connection.{Connection}
 use Rattle.decision.specs.declared.connection.Switches.{Switches}
 use Rattle.decision.specs.declared.connection.Decision.{Decision}
@@ -34,26 +34,26 @@ unfolding decision
 decision-done none flag size h = let z : _≡_ {A = ℕ} 0 1 = cc in absurd (omega arith)
 decision-done (some o) flag size h = refl
 
-module _ (c : Connection) (s : Switches) (k : Option Bool) (out : List ℕ) (a : Asked) where
+module _ (c : Connection) (s : Switches) (k : Option Original) (out : List ℕ) (a : Asked) where
   -- the number where the indication is right
-  past : serverTurn c s (a .signal) (a .ri) ≡ 0
+  past : serverIndication c s (a .signal) (a .ri) ≡ 0
       → plainNumber c s k out a ≡ firstOf ((6, forbidden (serverOutcome s k (a .ems))) ∷ (10, ltb (length out) (length (serverReply c s k a))) ∷ [])
-  unfolding serverTurn plainNumber serverWrong firstOf
+  unfolding serverIndication plainNumber serverWrong firstOf
   past e =
       by-test (closed c)
       (λ p. let z : _≡_ {A = ℕ} 9 0 = rw p at e in absurd (omega arith))
       (λ p.
-      by-test (serverWrong c s a)
+      by-test (serverWrong c s (a .signal) (a .ri))
       (λ q. let z : _≡_ {A = ℕ} 5 0 = rw (p, q) at e in absurd (omega arith))
       (λ q. rw (p, q)))
 
-  stopped : (n : ℕ) → serverTurn c s (a .signal) (a .ri) ≡ n → (n ≡ 0 → ⊥) → plainNumber c s k out a ≡ n
-  unfolding serverTurn plainNumber serverWrong firstOf
+  stopped : (n : ℕ) → serverIndication c s (a .signal) (a .ri) ≡ n → (n ≡ 0 → ⊥) → plainNumber c s k out a ≡ n
+  unfolding serverIndication plainNumber serverWrong firstOf
   stopped n e h =
       by-test (closed c)
       (λ p. rw p (rw p at e))
       (λ p.
-      by-test (serverWrong c s a)
+      by-test (serverWrong c s (a .signal) (a .ri))
       (λ q. rw (p, q) (rw (p, q) at e))
       (λ q. absurd (h (sym (rw (p, q) at e)))))
 
@@ -65,10 +65,10 @@ module _ (c : Connection) (s : Switches) (k : Option Bool) (out : List ℕ) (a :
         output = rw (e, ne-eqb n 0 h);
       }
 
-  pub plain-turn : (n : ℕ) {d : Decision} → serverTurn c s (a .signal) (a .ri) ≡ n → (n ≡ 0 → ⊥) → d ≡ refusing (refusalOf n) → Plain c s k out a d out
+  pub plain-turn : (n : ℕ) {d : Decision} → serverIndication c s (a .signal) (a .ri) ≡ n → (n ≡ 0 → ⊥) → d ≡ refusing (refusalOf n) → Plain c s k out a d out
   plain-turn n e h q = refusal-of n (stopped n e h) h q
 
-  module _ (turn : serverTurn c s (a .signal) (a .ri) ≡ 0) where
+  module _ (turn : serverIndication c s (a .signal) (a .ri) ≡ 0) where
     pub plain-six : {d : Decision} → forbidden (serverOutcome s k (a .ems)) ≡ true → d ≡ refusing (refusalOf 6) → Plain c s k out a d out
     unfolding firstOf
     plain-six f q = refusal-of 6 (past turn ∙ (rw f)) (λ z. omega arith) q
@@ -101,7 +101,7 @@ module _ (c : Connection) (s : Switches) (k : Option Bool) (out : List ℕ) (a :
           (λ p. let m : n ≡ 10 = number ∙ (rw p) in absurd (omega arith))
 
 -- the flag and the reply, from what the helpers answer
-module _ (c : Connection) (s : Switches) (k : Option Bool) (signal indicated : Bool) (bytes : List ℕ) (ems : Bool) where
+module _ (c : Connection) (s : Switches) (k : Option Original) (signal indicated : Bool) (bytes : List ℕ) (ems : Bool) where
   pub flag-is : {flag : Bool} → flag ≡ pick (later c) true (signal || indicated) → flag ≡ serverFlag c (askedOf signal (riOf indicated bytes) ems)
   unfolding serverFlag
   flag-is f = f ∙ go indicated
@@ -110,12 +110,12 @@ module _ (c : Connection) (s : Switches) (k : Option Bool) (signal indicated : B
       go true = refl
       go false = refl
 
-  pub reply-is : {flag uses : Bool} {o : Option Outcome} → flag ≡ pick (later c) true (signal || indicated) → uses ≡ withEms o → o ≡ serverOutcome s k ems
+  pub reply-is : {flag uses : Bool} {o : Option Outcome} → flag ≡ pick (later c) true (signal || indicated) → uses ≡ usesEms o → o ≡ serverOutcome s k ems
       → replyOf c flag uses ≡ serverReply c s k (askedOf signal (riOf indicated bytes) ems)
   unfolding serverReply
   reply-is f u o = rw (flag-is f, u, o)
 
 -- the same hello
-pub plain-same : {c : Connection} {s : Switches} {k : Option Bool} {out : List ℕ} {a a′ : Asked} {d : Decision} {o : List ℕ}
+pub plain-same : {c : Connection} {s : Switches} {k : Option Original} {out : List ℕ} {a a′ : Asked} {d : Decision} {o : List ℕ}
     → a ≡ a′ → Plain c s k out a d o → Plain c s k out a′ d o
 plain-same {c} {s} {k} {out} {d = d} {o = o} e p = subst (λ (x : Asked). Plain c s k out x d o) e p

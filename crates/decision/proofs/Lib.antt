@@ -6,4 +6,5 @@ pub mod Asking
 pub mod Telling
 pub mod Serving
 pub mod Agreement
-pub mod Cases
+pub mod Joined
+pub mod Witness

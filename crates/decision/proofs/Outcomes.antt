@@ -4,9 +4,8 @@ use mathlib.Core.Path.{_≡_, refl}
 use mathlib.Core.Bool.{Bool, true, false}
 use mathlib.Core.Option.{none, some}
 use Rattle.decision.specs.Connection.{legacyFull, legacyResumption, fullEms, fullLegacy, resumedEms, resumedLegacy, allowed}
-use Rattle.decision.specs.Server.{serverOutcome}
+use Rattle.decision.specs.Server.{resumable, serverOutcome}
 use Rattle.decision.specs.Client.{resumption, fullness}
-use Rattle.decision.specs.Steps.{sessionOf}
 use Rattle.decision.specs.declared.connection.Switches.{Switches}
 
 module _ (s : Switches) where
@@ -35,27 +34,24 @@ module _ (s : Switches) where
   unfolding resumption
   resumed-legacy k e p q = rw (p, q)
 
-  module _ (known k e : Bool) where
-    pub row-none : known ≡ false → serverOutcome s (sessionOf known k) e ≡ fullness s e
-    unfolding serverOutcome fullness
-    row-none h = rw h (go e)
-      where
-        go : (x : Bool) → serverOutcome s none x ≡ fullness s x
-        go true = refl
-        go false = refl
+  -- the server's two rows of no session, and of a session each by the hello's EMS
+  pub row-none : (e : Bool) → serverOutcome s none e ≡ fullness s e
+  unfolding serverOutcome fullness
+  row-none true = refl
+  row-none false = refl
 
-    pub row-with-with : known ≡ true → k ≡ true → e ≡ true → serverOutcome s (sessionOf known k) e ≡ some resumedEms
-    unfolding serverOutcome
-    row-with-with h p q = rw (h, p, q)
+  pub row-without-with : (e : Bool) → e ≡ true → resumable s false e ≡ some fullEms
+  unfolding resumable
+  row-without-with e q = rw q
 
-    pub row-with-without : known ≡ true → k ≡ true → e ≡ false → serverOutcome s (sessionOf known k) e ≡ none
-    unfolding serverOutcome
-    row-with-without h p q = rw (h, p, q)
+  pub row-without-without : (e : Bool) → e ≡ false → resumable s false e ≡ allowed (legacyResumption s) resumedLegacy
+  unfolding resumable
+  row-without-without e q = rw q
 
-    pub row-without-with : known ≡ true → k ≡ false → e ≡ true → serverOutcome s (sessionOf known k) e ≡ some fullEms
-    unfolding serverOutcome
-    row-without-with h p q = rw (h, p, q)
+  pub row-with-with : (e : Bool) → e ≡ true → resumable s true e ≡ some resumedEms
+  unfolding resumable
+  row-with-with e q = rw q
 
-    pub row-without-without : known ≡ true → k ≡ false → e ≡ false → serverOutcome s (sessionOf known k) e ≡ allowed (legacyResumption s) resumedLegacy
-    unfolding serverOutcome
-    row-without-without h p q = rw (h, p, q)
+  pub row-with-without : (e : Bool) → e ≡ false → resumable s true e ≡ none
+  unfolding resumable
+  row-with-without e q = rw q

@@ -22,9 +22,9 @@ use Rattle.sessions.specs.declared.calls.Known.{Known}
 use Rattle.sessions.specs.declared.calls.Known.the-variants as known
 use Rattle.hello.specs.Fields.{Hello, Reading, fields}
 use Rattle.hello.proofs.Learnt.{Faulted}
-use Rattle.decision.specs.Connection.{Outcome, refusedBy, decided, decision}
-use Rattle.decision.specs.Server.{asked, emsFound, sessionIn, serverNumber, serverDecision, serverOutput, Decided, ServerDecides}
-use Rattle.decision.specs.Steps.{refusing, plainNumber, Plain, emsKnown, SessionIs}
+use Rattle.decision.specs.Connection.{Outcome, refusing, refusedBy, decided, decision}
+use Rattle.decision.specs.Server.{asked, Original, originalOf, sessionIn, serverNumber, serverDecision, serverOutput, DecidedBy, ServerDecides}
+use Rattle.decision.specs.Steps.{plainNumber, Plain, originalIn, SessionIs}
 use Rattle.decision.specs.declared.connection.Connection.{Connection}
 use Rattle.decision.specs.declared.connection.Switches.{Switches}
 use Rattle.decision.specs.declared.connection.Decision.{Decision}
@@ -43,11 +43,11 @@ axle-high a h =
     (λ p. rw (p, le-leb 1 a h, le-leb a 6 (ltb-false 6 a p)))
 
 -- the session
-known-ems : (o : Option Session) → emsKnown (knownOf o) ≡ emsFound o
-known-ems none = refl
-known-ems (some s) = go (s .ems)
+known-original : (o : Option Session) → originalIn (knownOf o) ≡ originalOf o
+known-original none = refl
+known-original (some s) = go (s .ems)
   where
-    go : (e : Bool) → emsKnown (pick e known.WithEms known.WithoutEms) ≡ some e
+    go : (e : Bool) → originalIn (pick e known.WithEms known.WithoutEms) ≡ some (record { ems = e })
     go true = refl
     go false = refl
 
@@ -56,20 +56,20 @@ module _ (t : Table) (axle : ℕ) (r : Reading) (f : Hello) (e : r ≡ fields f)
   unfolding sessionIn
   session-none h =
       record {
-        row = [];
-        of-row = rw (e, eq-eqb (length (f .identifier)) 0 h);
+        book = [];
+        of-book = rw (e, eq-eqb (length (f .identifier)) 0 h);
         answers = λ b k. rw (e, eq-eqb (length (f .identifier)) 0 h);
       }
 
-  looked : (length (f .identifier) ≡ 0 → ⊥) → (b : Book) → sessionIn axle r b ≡ emsFound (sought axle (f .identifier) b)
+  looked : (length (f .identifier) ≡ 0 → ⊥) → (b : Book) → sessionIn axle r b ≡ originalOf (sought axle (f .identifier) b)
   unfolding sessionIn
   looked h b = rw (e, ne-eqb (length (f .identifier)) 0 h)
 
   pub session-found : (length (f .identifier) ≡ 0 → ⊥) → (i : List ℕ) (k : Known) → i ≡ f .identifier → Knows t axle i k → SessionIs t axle r k
-  session-found h i k q w = record { row = w .row; of-row = from (w .row) (w .of-row); answers = λ b x. from b (w .answers b x) }
+  session-found h i k q w = record { book = w .book; of-book = from (w .book) (w .of-book); answers = λ b x. from b (w .answers b x) }
     where
-      from : (b : Book) → k ≡ knownOf (sought axle i b) → emsKnown k ≡ sessionIn axle r b
-      from b x = ap emsKnown x ∙ known-ems (sought axle i b) ∙ sym (looked h b ∙ ap (λ (y : List ℕ). emsFound (sought axle y b)) (sym q))
+      from : (b : Book) → k ≡ knownOf (sought axle i b) → originalIn k ≡ sessionIn axle r b
+      from b x = ap originalIn x ∙ known-original (sought axle i b) ∙ sym (looked h b ∙ ap (λ (y : List ℕ). originalOf (sought axle y b)) (sym q))
 
 -- a decision bears its number
 pub decision-number : (n : ℕ) (o : Option Outcome) (flag : Bool) (size : ℕ) → decision n o flag size .refusal .number ≡ n
@@ -82,12 +82,12 @@ decision-number n (some o) flag size =
 
 module _ (t : Table) (axle : ℕ) (r : Reading) (c : Connection) (s : Switches) (out : List ℕ) where
   -- refused before the session is looked up
-  early : (n : ℕ) {d : Decision} → ((k : Option Bool) → serverNumber axle r k c s out ≡ n) → (n ≡ 0 → ⊥) → d ≡ refusing (refusalOf n)
+  early : (n : ℕ) {d : Decision} → ((k : Option Original) → serverNumber axle r k c s out ≡ n) → (n ≡ 0 → ⊥) → d ≡ refusing (refusalOf n)
       → ServerDecides t axle r c s out d out
   unfolding serverDecision serverOutput refusedBy
-  early n {d} e h q = record { row = []; of-row = of []; refused = λ z. refl; answers = λ b k. of b }
+  early n {d} e h q = record { book = []; of-book = of []; refused = λ z. refl; answers = λ b k. of b }
     where
-      of : (b : Book) → Decided axle r b c s out d out
+      of : (b : Book) → DecidedBy axle r b c s out d out
       of b =
           record {
             answer = rw (e (sessionIn axle r b)) (q ∙ sym (decision-refused n _ _ _ h));
@@ -103,25 +103,25 @@ module _ (t : Table) (axle : ℕ) (r : Reading) (c : Connection) (s : Switches) 
   server-faulted h f q = early (f .number) (λ k. rw (h, f .reading)) (f .some) (q ∙ ap refusing (f .refusal))
 
   -- on a hello that was read the number is that of the plain values
-  read-number : {h : Hello} (y : Option Bool) → badAxle axle ≡ false → r ≡ fields h → serverNumber axle r y c s out ≡ plainNumber c s y out (asked r)
+  read-number : {h : Hello} (y : Option Original) → badAxle axle ≡ false → r ≡ fields h → serverNumber axle r y c s out ≡ plainNumber c s y out (asked r)
   unfolding serverNumber plainNumber firstOf
   read-number y g e = rw (g, e)
 
-  plain-kept : {d : Decision} {o : List ℕ} (x : Option Bool) → Plain c s x out (asked r) d o → (d .refusal .number ≡ 0 → ⊥) → o ≡ out
+  plain-kept : {d : Decision} {o : List ℕ} (x : Option Original) → Plain c s x out (asked r) d o → (d .refusal .number ≡ 0 → ⊥) → o ≡ out
   plain-kept x p z =
       by-test (eqb (plainNumber c s x out (asked r)) 0)
       (λ q. absurd (z (ap (λ (y : Decision). y .refusal .number) (p .answer) ∙ decision-number _ _ _ _ ∙ eqb-true _ 0 q)))
       (λ q. p .output ∙ (rw q))
 
-  pub server-judged : {d : Decision} {o : List ℕ} {h : Hello} (k : Known) {x : Option Bool} → badAxle axle ≡ false → r ≡ fields h → SessionIs t axle r k → x ≡ emsKnown k
-      → Plain c s x out (asked r) d o → ServerDecides t axle r c s out d o
+  pub server-judged : {d : Decision} {o : List ℕ} {h : Hello} (k : Known) → badAxle axle ≡ false → r ≡ fields h → SessionIs t axle r k
+      → Plain c s (originalIn k) out (asked r) d o → ServerDecides t axle r c s out d o
   unfolding serverDecision serverOutput
-  server-judged {d} {o} k {x} g e w q p =
-      record { row = w .row; of-row = of (w .row) (w .of-row); refused = plain-kept x p; answers = λ b y. of b (w .answers b y) }
+  server-judged {d} {o} k g e w p =
+      record { book = w .book; of-book = of (w .book) (w .of-book); refused = plain-kept (originalIn k) p; answers = λ b y. of b (w .answers b y) }
     where
-      of : (b : Book) → emsKnown k ≡ sessionIn axle r b → Decided axle r b c s out d o
+      of : (b : Book) → originalIn k ≡ sessionIn axle r b → DecidedBy axle r b c s out d o
       of b y =
-          let v = subst (λ (u : Option Bool). Plain c s u out (asked r) d o) (q ∙ y) p in
+          let v = subst (λ (u : Option Original). Plain c s u out (asked r) d o) y p in
           record {
             answer = rw (read-number (sessionIn axle r b) g e) (v .answer);
             output = rw (read-number (sessionIn axle r b) g e) (v .output);

@@ -16,9 +16,9 @@ use Rattle.octets.specs.Same.{same}
 use Rattle.refusal.specs.declared.Refusal.{Refusal}
 use Rattle.hello.specs.Fields.{Hello, Reading, fields}
 use Rattle.hello.proofs.Learnt.{Faulted}
-use Rattle.decision.specs.Connection.{later, closed, present, Outcome, forbidden, refusedBy}
-use Rattle.decision.specs.Client.{Told, told, Lent, lentEms, badOffer, clientWrong, clientFlag, clientResumes, clientOutcome, clientNumber, clientDecision}
-use Rattle.decision.specs.Steps.{riOf, lentOf, clientTurn, refusing, decidedIn, toldOutcome, toldNumber, clientPlain}
+use Rattle.decision.specs.Connection.{later, closed, present, Outcome, forbidden, refusing, refusedBy}
+use Rattle.decision.specs.Client.{Told, told, Lent, lentOf, lentEms, badOffer, clientWrong, clientFlag, clientResumes, clientOutcome, clientNumber, clientDecision}
+use Rattle.decision.specs.Steps.{riOf, clientIndication, decidedIn, toldNumber, clientPlain}
 use Rattle.decision.specs.declared.connection.Connection.{Connection}
 use Rattle.decision.specs.declared.connection.Switches.{Switches}
 use Rattle.decision.specs.declared.connection.Decision.{Decision}
@@ -61,8 +61,8 @@ module _ (c : Connection) (s : Switches) (i : List ℕ) (e : Bool) (t : Told) wh
   told-others h q = refusal-of 4 (rw h) (λ z. omega arith) q
 
   module _ (known : t .others ≡ false) where
-    pub told-turn : (n : ℕ) {d : Decision} → clientTurn c s (t .ri) ≡ n → (n ≡ 0 → ⊥) → d ≡ refusing (refusalOf n) → d ≡ clientPlain c s i e t
-    unfolding toldNumber clientTurn clientWrong firstOf
+    pub told-turn : (n : ℕ) {d : Decision} → clientIndication c s (t .ri) ≡ n → (n ≡ 0 → ⊥) → d ≡ refusing (refusalOf n) → d ≡ clientPlain c s i e t
+    unfolding toldNumber clientIndication clientWrong firstOf
     told-turn n p h q = refusal-of n stopped h q
       where
         stopped : toldNumber c s i e t ≡ n
@@ -70,27 +70,27 @@ module _ (c : Connection) (s : Switches) (i : List ℕ) (e : Bool) (t : Told) wh
             by-test (closed c)
             (λ x. rw (known, x) (rw x at p))
             (λ x.
-            by-test (clientWrong c s t)
+            by-test (clientWrong c s (t .ri))
             (λ y. rw (known, x, y) (rw (x, y) at p))
             (λ y. absurd (h (sym (rw (x, y) at p)))))
 
-    past : clientTurn c s (t .ri) ≡ 0 → toldNumber c s i e t ≡ pick (forbidden (toldOutcome s i e t)) 6 0
-    unfolding toldNumber clientTurn clientWrong firstOf
+    past : clientIndication c s (t .ri) ≡ 0 → toldNumber c s i e t ≡ pick (forbidden (clientOutcome s i e t)) 6 0
+    unfolding toldNumber clientIndication clientWrong firstOf
     past p =
         by-test (closed c)
         (λ x. let z : _≡_ {A = ℕ} 7 0 = rw x at p in absurd (omega arith))
         (λ x.
-        by-test (clientWrong c s t)
+        by-test (clientWrong c s (t .ri))
         (λ y. let z : _≡_ {A = ℕ} 5 0 = rw (x, y) at p in absurd (omega arith))
         (λ y. rw (known, x, y)))
 
-    pub told-done : {d : Decision} {flag : Bool} → clientTurn c s (t .ri) ≡ 0 → flag ≡ clientFlag c t
-        → d ≡ decidedIn (toldOutcome s i e t) flag 0 → d ≡ clientPlain c s i e t
+    pub told-done : {d : Decision} {flag : Bool} → clientIndication c s (t .ri) ≡ 0 → flag ≡ clientFlag c t
+        → d ≡ decidedIn (clientOutcome s i e t) flag 0 → d ≡ clientPlain c s i e t
     unfolding clientPlain refusedBy
     told-done p f q =
-        by-test (forbidden (toldOutcome s i e t))
-        (λ x. refusal-of 6 (past p ∙ (rw x)) (λ z. omega arith) (q ∙ six (toldOutcome s i e t) _ x))
-        (λ x. rw (past p, x, ← f) (q ∙ sym (decision-done (toldOutcome s i e t) _ 0 x)))
+        by-test (forbidden (clientOutcome s i e t))
+        (λ x. refusal-of 6 (past p ∙ (rw x)) (λ z. omega arith) (q ∙ six (clientOutcome s i e t) _ x))
+        (λ x. rw (past p, x, ← f) (q ∙ sym (decision-done (clientOutcome s i e t) _ 0 x)))
       where
         six : (o : Option Outcome) (flag : Bool) → forbidden o ≡ true → decidedIn o flag 0 ≡ refusing (refusalOf 6)
         six none flag h = refl
@@ -120,5 +120,5 @@ module _ (r : Reading) (i : List ℕ) (l : Option Lent) (c : Connection) (s : Sw
   decide-fault h f q = whole-refusal (f .number) (rw (h, f .reading)) (f .some) (q ∙ ap refusing (f .refusal))
 
   pub decide-told : {d : Decision} {h : Hello} {e : Bool} → badOffer i l ≡ false → r ≡ fields h → e ≡ lentEms l → d ≡ clientPlain c s i e (told r) → d ≡ clientDecision r i l c s
-  unfolding clientNumber clientDecision clientPlain toldNumber toldOutcome clientOutcome firstOf
+  unfolding clientNumber clientDecision clientPlain toldNumber clientOutcome firstOf
   decide-told o f e q = q ∙ (rw (e, o, f))

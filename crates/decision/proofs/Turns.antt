@@ -15,7 +15,9 @@ use Rattle.refusal.specs.First.{firstOf}
 use Rattle.octets.specs.Same.{same}
 use Rattle.seqs.specs.Cases.{not-not}
 use Rattle.decision.specs.Connection.{closed, required, saying, wrongFirst}
-use Rattle.decision.specs.Steps.{riOf, serverTurn, clientTurn}
+use Rattle.decision.specs.Server.{serverWrong}
+use Rattle.decision.specs.Client.{clientWrong}
+use Rattle.decision.specs.Steps.{riOf, serverIndication, clientIndication}
 use Rattle.decision.specs.declared.connection.Connection.{Connection}
 use Rattle.decision.specs.declared.connection.Switches.{Switches}
 
@@ -61,32 +63,32 @@ pub says-ri : (v : List ℕ) (indicated : Bool) (bytes : List ℕ) → indicated
 says-ri v indicated bytes h = rw h
 
 module _ (c : Connection) (s : Switches) (ri : Option (List ℕ)) where
-  pub server-first : (signal : Bool) → c .completed ≡ 0 → {w : Bool} → wrongFirst s signal ri ≡ w → serverTurn c s signal ri ≡ pick w 5 0
-  unfolding serverTurn firstOf
+  pub server-first : (signal : Bool) → c .completed ≡ 0 → {w : Bool} → wrongFirst s signal ri ≡ w → serverIndication c s signal ri ≡ pick w 5 0
+  unfolding serverIndication serverWrong firstOf
   server-first signal h e = rw (open-first c h, eq-eqb (c .completed) 0 h, e)
 
-  pub server-closed : (signal : Bool) → closed c ≡ true → serverTurn c s signal ri ≡ 9
-  unfolding serverTurn firstOf
+  pub server-closed : (signal : Bool) → closed c ≡ true → serverIndication c s signal ri ≡ 9
+  unfolding serverIndication serverWrong firstOf
   server-closed signal h = rw h
 
-  pub server-signal : (signal : Bool) → (c .completed ≡ 0 → ⊥) → closed c ≡ false → signal ≡ true → serverTurn c s signal ri ≡ 5
-  unfolding serverTurn firstOf
+  pub server-signal : (signal : Bool) → (c .completed ≡ 0 → ⊥) → closed c ≡ false → signal ≡ true → serverIndication c s signal ri ≡ 5
+  unfolding serverIndication serverWrong firstOf
   server-signal signal h k e = rw (k, ne-eqb (c .completed) 0 h, e)
 
   pub server-later : (signal : Bool) → (c .completed ≡ 0 → ⊥) → closed c ≡ false → signal ≡ false → {w : Bool} → saying (c .client) ri ≡ w
-      → serverTurn c s signal ri ≡ pick (not w) 5 0
-  unfolding serverTurn firstOf
+      → serverIndication c s signal ri ≡ pick (not w) 5 0
+  unfolding serverIndication serverWrong firstOf
   server-later signal h k e f = rw (k, ne-eqb (c .completed) 0 h, e, f)
 
-  pub client-first : c .completed ≡ 0 → {w : Bool} → wrongFirst s false ri ≡ w → clientTurn c s ri ≡ pick w 5 0
-  unfolding clientTurn firstOf
+  pub client-first : c .completed ≡ 0 → {w : Bool} → wrongFirst s false ri ≡ w → clientIndication c s ri ≡ pick w 5 0
+  unfolding clientIndication clientWrong firstOf
   client-first h e = rw (open-first c h, eq-eqb (c .completed) 0 h, e)
 
-  pub client-closed : closed c ≡ true → clientTurn c s ri ≡ 7
-  unfolding clientTurn firstOf
+  pub client-closed : closed c ≡ true → clientIndication c s ri ≡ 7
+  unfolding clientIndication clientWrong firstOf
   client-closed h = rw h
 
   pub client-later : (c .completed ≡ 0 → ⊥) → closed c ≡ false → {w : Bool} → saying (c .client ++ c .server) ri ≡ w
-      → clientTurn c s ri ≡ pick (not w) 5 0
-  unfolding clientTurn firstOf
+      → clientIndication c s ri ≡ pick (not w) 5 0
+  unfolding clientIndication clientWrong firstOf
   client-later h k f = rw (k, ne-eqb (c .completed) 0 h, f)

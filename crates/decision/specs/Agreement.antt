@@ -1,23 +1,26 @@
 -- The tender's second condition, on the reply: 'The reply that our server side writes is accepted by our client side, with the
 -- same outcome, when it answers our own hello, both hold the same connection record and the same session, and the
--- ServerHello reads without fault and repeats a non-empty offered identifier exactly when it resumes.' It is stated over the
--- definitions that the two calls' promises cite. It is proved in proofs/Agreement.antt.
+-- ServerHello reads without fault and repeats a non-empty offered identifier exactly when it resumes.' It is stated of what the
+-- two calls ensure and of the bytes that the server wrote. It is proved in proofs/Joined.antt, and specs/Exchanges.antt has an exchange
+-- of each kind that meets what it supposes.
 -- Assumes nothing.
 use mathlib.Core.Path.{_≡_}
 use mathlib.Core.Bool.{Bool, false}
 use mathlib.Core.List.{List}
 use mathlib.Core.Logic.{_⊎_}
 use mathlib.Core.Option.{Option, none, some}
-use Prim.Native.Nat.{ℕ, _≤_}
-use lib.ListN.{length}
+use Prim.Native.Nat.{ℕ}
+use lib.ListN.{length, take}
 use Rattle.seqs.specs.Flag.{yes}
 use Rattle.refusal.specs.Table.{refusalOf}
 use Rattle.octets.specs.Same.{same}
 use Rattle.sessions.specs.Book.{Book, sought}
-use Rattle.hello.specs.Fields.{Hello, Reading, fields, signalIn, readServer}
+use Rattle.sessions.specs.Keeps.{Keeps}
+use Rattle.sessions.specs.declared.table.Table.{Table}
+use Rattle.hello.specs.Fields.{Hello, fields, signalIn, readClient, readServer}
 use Rattle.hello.specs.Written.{behindMethod}
 use Rattle.decision.specs.Reply.{offerOf, offerTurned}
-use Rattle.decision.specs.Server.{asked, emsFound, sessionIn, serverReply, serverDecision}
+use Rattle.decision.specs.Server.{originalOf, ServerDecides}
 use Rattle.decision.specs.Client.{Lent, clientDecision}
 use Rattle.decision.specs.declared.connection.Connection.{Connection}
 use Rattle.decision.specs.declared.connection.Switches.{Switches}
@@ -33,24 +36,29 @@ pub record OurHello (c : Connection) (i : List ℕ) (h : Hello) : Type 0 where
 -- same EMS. Where nothing is offered no session is asked on either side.
 pub record SameSession (axle : ℕ) (b : Book) (i : List ℕ) (l : Option Lent) : Type 0 where
   pub ems : Bool
-  pub short : length i ≤ 32
   pub client : (length i ≡ 0 → ⊥) → l ≡ some (record { identifier = i; ems = ems })
-  pub server : (length i ≡ 0 → ⊥) → (emsFound (sought axle i b) ≡ none) ⊎ (emsFound (sought axle i b) ≡ some ems)
+  pub server : (length i ≡ 0 → ⊥) → (originalOf (sought axle i b) ≡ none) ⊎ (originalOf (sought axle i b) ≡ some (record { ems = ems }))
 
--- what the rule supposes: our server decides on the reading r with the book b and the switches s, an output that holds out is lent to
--- it, and our client is given the ServerHello m, with switches s′ of its own
-pub record Exchange (axle : ℕ) (b : Book) (c : Connection) (s : Switches) (r : Reading) (out : List ℕ) (i : List ℕ) (l : Option Lent) (m : List ℕ) : Type 0 where
+-- What the rule supposes of two calls. Our server was given the ClientHello h of an axle, the table t, which keeps the book b, the
+-- connection record c, switches s, and an output that held out; it answered d, and the output then held out′. Our client was given the
+-- ServerHello m, the identifier i that it had offered, the session l, the same record, and switches s′ of its own; it answered d′.
+pub record Exchange (t : Table) (b : Book) (axle : ℕ) (c : Connection) (s s′ : Switches) (h out out′ m i : List ℕ) (l : Option Lent) (d d′ : Decision) : Type 0 where
+  -- what the two calls ensure
+  pub keeps : Keeps t b
+  pub served : ServerDecides t axle (readClient h) c s out d out′
+  pub judged : d′ ≡ clientDecision (readServer m) i l c s′
+  -- 'it answers our own hello': the server accepts it
   pub asks : Hello
-  pub reads : r ≡ fields asks
+  pub reads : readClient h ≡ fields asks
   pub ours : OurHello c i asks
+  pub accepts : d .refusal .number ≡ 0
   pub shares : SameSession axle b i l
-  -- the server accepts
-  pub accepts : serverDecision axle r (sessionIn axle r b) c s out .refusal .number ≡ 0
-  -- the ServerHello reads, carries exactly the reply, and repeats a non-empty offer exactly when it resumes
+  -- 'the ServerHello reads without fault'; behind its compression method stands what the server wrote, and nothing else
   pub answer : Hello
   pub answered : readServer m ≡ fields answer
-  pub carries : behindMethod m answer ≡ serverReply c s (sessionIn axle r b) (asked r)
-  pub repeats : (length i ≡ 0 → ⊥) → same (answer .identifier) i ≡ yes (serverDecision axle r (sessionIn axle r b) c s out .resumes)
+  pub carries : behindMethod m answer ≡ take (d .«reply_length») out′
+  -- 'and repeats a non-empty offered identifier exactly when it resumes'
+  pub repeats : (length i ≡ 0 → ⊥) → same (answer .identifier) i ≡ yes (d .resumes)
 
 -- what it promises of the two decisions
 pub record Agree (server client : Decision) : Type 0 where
@@ -65,6 +73,5 @@ pub record Agree (server client : Decision) : Type 0 where
 -- the rule, for whatever switches either side has
 abbrev pub ReplyRule : Type 0
 ReplyRule =
-    (axle : ℕ) (b : Book) (c : Connection) (s s′ : Switches) (r : Reading) (out i : List ℕ) (l : Option Lent) (m : List ℕ)
-    → Exchange axle b c s r out i l m
-    → Agree (serverDecision axle r (sessionIn axle r b) c s out) (clientDecision (readServer m) i l c s′)
+    (t : Table) (b : Book) (axle : ℕ) (c : Connection) (s s′ : Switches) (h out out′ m i : List ℕ) (l : Option Lent) (d d′ : Decision)
+    → Exchange t b axle c s s′ h out out′ m i l d d′ → Agree d d′

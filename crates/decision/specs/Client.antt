@@ -34,6 +34,10 @@ pub record Lent : Type 0 where
   pub identifier : List ℕ
   pub ems : Bool
 
+abbrev pub lentOf : Bool → List ℕ → Bool → Option Lent
+lentOf true i ems = some (record { identifier = i; ems = ems })
+lentOf false i ems = none
+
 abbrev pub bears : Option Lent → List ℕ → Bool
 bears none i = false
 bears (some l) i = same (l .identifier) i
@@ -50,8 +54,8 @@ unfoldable pub badOffer : List ℕ → Option Lent → Bool
 badOffer i l = ltb 32 (length i) || (not (isEmpty i) && not (bears l i))
 
 -- 5: 'First handshake: RI must be empty, else 5; missing .. is 5 where required. Later: .. RI must be the 24 saved bytes, else 5'
-unfoldable pub clientWrong : Connection → Switches → Told → Bool
-clientWrong c s t = pick (later c) (not (saying (c .client ++ c .server) (t .ri))) (wrongFirst s false (t .ri))
+unfoldable pub clientWrong : Connection → Switches → Option (List ℕ) → Bool
+clientWrong c s ri = pick (later c) (not (saying (c .client ++ c .server) ri)) (wrongFirst s false ri)
 
 -- 'missing clears the flag'
 unfoldable pub clientFlag : Connection → Told → Bool
@@ -74,21 +78,23 @@ unfoldable pub fullness : Switches → Bool → Option Outcome
 fullness s true = some fullEms
 fullness s false = allowed (legacyFull s) fullLegacy
 
-unfoldable pub clientOutcome : Switches → List ℕ → Option Lent → Told → Option Outcome
-clientOutcome s i l t = pick (clientResumes i t) (resumption s (lentEms l) (t .ems)) (fullness s (t .ems))
+-- e is the EMS of the session that is offered
+unfoldable pub clientOutcome : Switches → List ℕ → Bool → Told → Option Outcome
+clientOutcome s i e t = pick (clientResumes i t) (resumption s e (t .ems)) (fullness s (t .ems))
+
+abbrev pub clientTests : Connection → Switches → List ℕ → Bool → Told → List (ℕ × Bool)
+clientTests c s i e t =
+    (4, t .others)
+    ∷ (7, closed c)
+    ∷ (5, clientWrong c s (t .ri))
+    ∷ (6, forbidden (clientOutcome s i e t))
+    ∷ []
 
 -- 4: 'Any other type from the server is 4.' 7: 'Later: bar set or flag clear is 7'
 unfoldable pub clientNumber : Reading → List ℕ → Option Lent → Connection → Switches → ℕ
 clientNumber r i l c s =
-    firstOf
-    ((11, badOffer i l)
-    ∷ (faultOf r, faulty r)
-    ∷ (4, told r .others)
-    ∷ (7, closed c)
-    ∷ (5, clientWrong c s (told r))
-    ∷ (6, forbidden (clientOutcome s i l (told r)))
-    ∷ [])
+    firstOf ((11, badOffer i l) ∷ (faultOf r, faulty r) ∷ clientTests c s i (lentEms l) (told r))
 
 -- the client writes no reply
 unfoldable pub clientDecision : Reading → List ℕ → Option Lent → Connection → Switches → Decision
-clientDecision r i l c s = decision (clientNumber r i l c s) (clientOutcome s i l (told r)) (clientFlag c (told r)) 0
+clientDecision r i l c s = decision (clientNumber r i l c s) (clientOutcome s i (lentEms l) (told r)) (clientFlag c (told r)) 0

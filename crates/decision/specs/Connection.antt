@@ -9,6 +9,7 @@ use lib.ListN.{replicate}
 use Rattle.seqs.specs.Pick.{pick}
 use Rattle.seqs.specs.Flag.{yes, bit}
 use Rattle.refusal.specs.Table.{refusalOf}
+use Rattle.refusal.specs.declared.Refusal.{Refusal}
 use Rattle.octets.specs.Same.{same}
 use Rattle.decision.specs.declared.connection.Connection.{Connection}
 use Rattle.decision.specs.declared.connection.Switches.{Switches}
@@ -83,17 +84,17 @@ abbrev pub forbidden : Option Outcome → Bool
 forbidden none = true
 forbidden (some o) = false
 
-abbrev pub withEms : Option Outcome → Bool
-withEms none = false
-withEms (some o) = o .ems
+abbrev pub usesEms : Option Outcome → Bool
+usesEms none = false
+usesEms (some o) = o .ems
 
 -- ---- answers
 
 -- 'A refusal returns its number and alert and nothing else'
-unfoldable pub refusedBy : ℕ → Decision
-refusedBy n =
+abbrev pub refusing : Refusal → Decision
+refusing r =
     record {
-      refusal = refusalOf n;
+      refusal = r;
       resumes = 0;
       ems = 0;
       indication = 0;
@@ -102,6 +103,9 @@ refusedBy n =
       «bars_verify_data» = 0;
       «reply_length» = 0;
     }
+
+unfoldable pub refusedBy : ℕ → Decision
+refusedBy n = refusing (refusalOf n)
 
 -- 'A legacy outcome bars key export. Legacy resumption also bars verify_data for other uses and, at completion, sets the
 -- renegotiation bar.' The flag is the one that completion will write.

@@ -4,3 +4,4 @@ pub mod Server
 pub mod Client
 pub mod Steps
 pub mod Agreement
+pub mod Exchanges

@@ -15,7 +15,7 @@ use Rattle.sessions.specs.Keeps.{Keeps}
 use Rattle.sessions.specs.declared.table.Table.{Table}
 use Rattle.hello.specs.Extensions.{indicationOf, emsOf}
 use Rattle.hello.specs.Fields.{Reading, fields, fault, signalIn}
-use Rattle.decision.specs.Connection.{later, closed, present, saying, wrongFirst, legacyFull, legacyResumption, Outcome, fullEms, fullLegacy, resumedEms, resumedLegacy, allowed, forbidden, withEms, decision}
+use Rattle.decision.specs.Connection.{later, closed, present, saying, wrongFirst, legacyFull, legacyResumption, Outcome, fullEms, fullLegacy, resumedEms, resumedLegacy, allowed, forbidden, usesEms, decision}
 use Rattle.decision.specs.Reply.{replyOf}
 use Rattle.decision.specs.declared.connection.Connection.{Connection}
 use Rattle.decision.specs.declared.connection.Switches.{Switches}
@@ -40,66 +40,76 @@ abbrev pub faultOf : Reading → ℕ
 faultOf (fields h) = 0
 faultOf (fault n) = n
 
--- 'The hello's identifier, if not empty, is looked up for its axle': the EMS of the session found, or none
-abbrev pub emsFound : Option Session → Option Bool
-emsFound none = none
-emsFound (some s) = some (s .ems)
+-- what is weighed of a session that could be resumed, RFC 7627's 'original session': was its master secret made with EMS?
+pub record Original : Type 0 where
+  pub ems : Bool
 
-unfoldable pub sessionIn : ℕ → Reading → Book → Option Bool
-sessionIn axle (fields h) b = pick (eqb (length (h .identifier)) 0) none (emsFound (sought axle (h .identifier) b))
+abbrev pub originalOf : Option Session → Option Original
+originalOf none = none
+originalOf (some s) = some (record { ems = s .ems })
+
+-- 'The hello's identifier, if not empty, is looked up for its axle': what is weighed of the session found, or none
+unfoldable pub sessionIn : ℕ → Reading → Book → Option Original
+sessionIn axle (fields h) b = pick (eqb (length (h .identifier)) 0) none (originalOf (sought axle (h .identifier) b))
 sessionIn axle (fault n) b = none
 
 -- 5. First handshake: as of either side, where the signal stands for an empty RI. Later: 'the signal present is 5, RI missing
 -- is 5, RI other than the saved client verify_data is 5'
-unfoldable pub serverWrong : Connection → Switches → Asked → Bool
-serverWrong c s a = pick (later c) (a .signal || not (saying (c .client) (a .ri))) (wrongFirst s (a .signal) (a .ri))
+unfoldable pub serverWrong : Connection → Switches → Bool → Option (List ℕ) → Bool
+serverWrong c s signal ri = pick (later c) (signal || not (saying (c .client) ri)) (wrongFirst s signal ri)
 
 -- 'First handshake: signal or RI present sets the flag; .. neither clears the flag'. In a later one it is set, or the handshake is closed.
 unfoldable pub serverFlag : Connection → Asked → Bool
 serverFlag c a = pick (later c) true (a .signal || present (a .ri))
 
--- the table of six rows: by the session's EMS, or none, and by the hello's
-unfoldable pub serverOutcome : Switches → Option Bool → Bool → Option Outcome
+-- the table of six rows. Of a known session: by its EMS and the hello's
+unfoldable pub resumable : Switches → Bool → Bool → Option Outcome
+resumable s false true = some fullEms
+resumable s false false = allowed (legacyResumption s) resumedLegacy
+resumable s true true = some resumedEms
+resumable s true false = none
+
+-- and of none: by the hello's
+unfoldable pub serverOutcome : Switches → Option Original → Bool → Option Outcome
 serverOutcome s none true = some fullEms
 serverOutcome s none false = allowed (legacyFull s) fullLegacy
-serverOutcome s (some false) true = some fullEms
-serverOutcome s (some false) false = allowed (legacyResumption s) resumedLegacy
-serverOutcome s (some true) true = some resumedEms
-serverOutcome s (some true) false = none
+serverOutcome s (some k) ems = resumable s (k .ems) ems
 
 -- the reply that goes with it
-unfoldable pub serverReply : Connection → Switches → Option Bool → Asked → List ℕ
-serverReply c s k a = replyOf c (serverFlag c a) (withEms (serverOutcome s k (a .ems)))
+unfoldable pub serverReply : Connection → Switches → Option Original → Asked → List ℕ
+serverReply c s k a = replyOf c (serverFlag c a) (usesEms (serverOutcome s k (a .ems)))
 
--- the number, for a lent output that holds out
-unfoldable pub serverNumber : ℕ → Reading → Option Bool → Connection → Switches → List ℕ → ℕ
+-- what is asked of a hello that was read, for a good axle and a lent output that holds out
+abbrev pub serverTests : Connection → Switches → Option Original → List ℕ → Asked → List (ℕ × Bool)
+serverTests c s k out a =
+    (9, closed c)
+    ∷ (5, serverWrong c s (a .signal) (a .ri))
+    ∷ (6, forbidden (serverOutcome s k (a .ems)))
+    ∷ (10, ltb (length out) (length (serverReply c s k a)))
+    ∷ []
+
+-- the number
+unfoldable pub serverNumber : ℕ → Reading → Option Original → Connection → Switches → List ℕ → ℕ
 serverNumber axle r k c s out =
-    firstOf
-    ((11, badAxle axle)
-    ∷ (faultOf r, faulty r)
-    ∷ (9, closed c)
-    ∷ (5, serverWrong c s (asked r))
-    ∷ (6, forbidden (serverOutcome s k (asked r .ems)))
-    ∷ (10, ltb (length out) (length (serverReply c s k (asked r))))
-    ∷ [])
+    firstOf ((11, badAxle axle) ∷ (faultOf r, faulty r) ∷ serverTests c s k out (asked r))
 
-unfoldable pub serverDecision : ℕ → Reading → Option Bool → Connection → Switches → List ℕ → Decision
+unfoldable pub serverDecision : ℕ → Reading → Option Original → Connection → Switches → List ℕ → Decision
 serverDecision axle r k c s out =
     decision (serverNumber axle r k c s out) (serverOutcome s k (asked r .ems)) (serverFlag c (asked r)) (length (serverReply c s k (asked r)))
 
 -- 'Output beyond the reply is untouched.'
-unfoldable pub serverOutput : ℕ → Reading → Option Bool → Connection → Switches → List ℕ → List ℕ
+unfoldable pub serverOutput : ℕ → Reading → Option Original → Connection → Switches → List ℕ → List ℕ
 serverOutput axle r k c s out = pick (eqb (serverNumber axle r k c s out) 0) (putList out (serverReply c s k (asked r))) out
 
 -- What the call promises: the answer, and what the lent output then holds, are those of a book
-pub record Decided (axle : ℕ) (r : Reading) (b : Book) (c : Connection) (s : Switches) (out : List ℕ) (d : Decision) (out′ : List ℕ) : Type 0 where
+pub record DecidedBy (axle : ℕ) (r : Reading) (b : Book) (c : Connection) (s : Switches) (out : List ℕ) (d : Decision) (out′ : List ℕ) : Type 0 where
   pub answer : d ≡ serverDecision axle r (sessionIn axle r b) c s out
   pub output : out′ ≡ serverOutput axle r (sessionIn axle r b) c s out
 
 -- of a table t whatever it is, and of the book that it keeps
 pub record ServerDecides (t : Table) (axle : ℕ) (r : Reading) (c : Connection) (s : Switches) (out : List ℕ) (d : Decision) (out′ : List ℕ) : Type 0 where
-  pub row : Book
-  pub of-row : Decided axle r row c s out d out′
+  pub book : Book
+  pub of-book : DecidedBy axle r book c s out d out′
   -- refused: nothing is written
   pub refused : (d .refusal .number ≡ 0 → ⊥) → out′ ≡ out
-  pub answers : (b : Book) → Keeps t b → Decided axle r b c s out d out′
+  pub answers : (b : Book) → Keeps t b → DecidedBy axle r b c s out d out′

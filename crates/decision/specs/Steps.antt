@@ -10,11 +10,10 @@ use lib.ListN.{length, take}
 use Rattle.seqs.specs.Pick.{pick}
 use Rattle.octets.specs.Put.{putList}
 use Rattle.refusal.specs.First.{firstOf}
-use Rattle.refusal.specs.declared.Refusal.{Refusal}
-use Rattle.decision.specs.Connection.{later, closed, saying, wrongFirst, forbidden, Outcome, fullEms, fullLegacy, resumedEms, resumedLegacy, refusedBy, decided, decision}
+use Rattle.decision.specs.Connection.{closed, Outcome, fullEms, fullLegacy, resumedEms, resumedLegacy, refusedBy, decided, decision}
 use Rattle.decision.specs.Reply.{replyOf}
-use Rattle.decision.specs.Server.{Asked, sessionIn, serverWrong, serverFlag, serverOutcome, serverReply}
-use Rattle.decision.specs.Client.{Told, Lent, clientWrong, clientFlag, clientResumes, resumption, fullness}
+use Rattle.decision.specs.Server.{Asked, Original, sessionIn, serverWrong, serverFlag, serverOutcome, serverReply, serverTests}
+use Rattle.decision.specs.Client.{Told, clientWrong, clientFlag, clientOutcome, clientTests}
 use Rattle.hello.specs.Fields.{Reading, readClient, readServer}
 use Rattle.sessions.specs.Book.{Book}
 use Rattle.sessions.specs.Keeps.{Keeps}
@@ -38,18 +37,13 @@ abbrev pub riOf : Bool → List ℕ → Option (List ℕ)
 riOf true bytes = some bytes
 riOf false bytes = none
 
--- a session's EMS, or none, from two flags
-abbrev pub sessionOf : Bool → Bool → Option Bool
-sessionOf true ems = some ems
-sessionOf false ems = none
-
 -- 9 or 5
-unfoldable pub serverTurn : Connection → Switches → Bool → Option (List ℕ) → ℕ
-serverTurn c s signal ri = firstOf ((9, closed c) ∷ (5, pick (later c) (signal || not (saying (c .client) ri)) (wrongFirst s signal ri)) ∷ [])
+unfoldable pub serverIndication : Connection → Switches → Bool → Option (List ℕ) → ℕ
+serverIndication c s signal ri = firstOf ((9, closed c) ∷ (5, serverWrong c s signal ri) ∷ [])
 
 -- 7 or 5
-unfoldable pub clientTurn : Connection → Switches → Option (List ℕ) → ℕ
-clientTurn c s ri = firstOf ((7, closed c) ∷ (5, pick (later c) (not (saying (c .client ++ c .server) ri)) (wrongFirst s false ri)) ∷ [])
+unfoldable pub clientIndication : Connection → Switches → Option (List ℕ) → ℕ
+clientIndication c s ri = firstOf ((7, closed c) ∷ (5, clientWrong c s ri) ∷ [])
 
 -- RI with both values of verify_data, then EMS, behind a block length
 abbrev pub renegotiatedBytes : ℕ → List ℕ → List ℕ → List ℕ
@@ -68,11 +62,6 @@ outcomeIn FullLegacy = some fullLegacy
 outcomeIn ResumedEms = some resumedEms
 outcomeIn ResumedLegacy = some resumedLegacy
 
--- the refusal and nothing else
-abbrev pub refusing : Refusal → Decision
-refusing r =
-    record { refusal = r; resumes = 0; ems = 0; indication = 0; bar = 0; «bars_export» = 0; «bars_verify_data» = 0; «reply_length» = 0 }
-
 -- an outcome, or 6
 abbrev pub decidedIn : Option Outcome → Bool → ℕ → Decision
 decidedIn none flag n = refusedBy 6
@@ -83,17 +72,11 @@ abbrev pub askedOf : Bool → Option (List ℕ) → Bool → Asked
 askedOf signal ri ems = record { signal = signal; ri = ri; ems = ems }
 
 -- the server's decision on a hello that was read, for a good axle
-unfoldable pub plainNumber : Connection → Switches → Option Bool → List ℕ → Asked → ℕ
-plainNumber c s k out a =
-    firstOf
-    ((9, closed c)
-    ∷ (5, serverWrong c s a)
-    ∷ (6, forbidden (serverOutcome s k (a .ems)))
-    ∷ (10, ltb (length out) (length (serverReply c s k a)))
-    ∷ [])
+unfoldable pub plainNumber : Connection → Switches → Option Original → List ℕ → Asked → ℕ
+plainNumber c s k out a = firstOf (serverTests c s k out a)
 
 -- its answer, and what the lent output then holds
-pub record Plain (c : Connection) (s : Switches) (k : Option Bool) (out : List ℕ) (a : Asked) (r : Decision) (out′ : List ℕ) : Type 0 where
+pub record Plain (c : Connection) (s : Switches) (k : Option Original) (out : List ℕ) (a : Asked) (r : Decision) (out′ : List ℕ) : Type 0 where
   pub answer : r ≡ decision (plainNumber c s k out a) (serverOutcome s k (a .ems)) (serverFlag c a) (length (serverReply c s k a))
   pub output : out′ ≡ pick (eqb (plainNumber c s k out a) 0) (putList out (serverReply c s k a)) out
 
@@ -104,42 +87,24 @@ ClientWas m h = client.Read h ≡ clientAnswer (readClient m)
 abbrev pub ServerWas : List ℕ → ServerHello → Type 0
 ServerWas m h = server.Read h ≡ serverAnswer (readServer m)
 
--- the session that the client lends, from plain values
-abbrev pub lentOf : Bool → List ℕ → Bool → Option Lent
-lentOf true i ems = some (record { identifier = i; ems = ems })
-lentOf false i ems = none
-
 abbrev pub toldOf : List ℕ → Option (List ℕ) → Bool → Bool → Told
 toldOf i ri ems others = record { identifier = i; ri = ri; ems = ems; others = others }
 
 -- the client's decision on a hello that was read, for a good offer i of a session whose EMS is e
-unfoldable pub toldOutcome : Switches → List ℕ → Bool → Told → Option Outcome
-toldOutcome s i e t = pick (clientResumes i t) (resumption s e (t .ems)) (fullness s (t .ems))
-
 unfoldable pub toldNumber : Connection → Switches → List ℕ → Bool → Told → ℕ
-toldNumber c s i e t =
-    firstOf
-    ((4, t .others)
-    ∷ (7, closed c)
-    ∷ (5, clientWrong c s t)
-    ∷ (6, forbidden (toldOutcome s i e t))
-    ∷ [])
+toldNumber c s i e t = firstOf (clientTests c s i e t)
 
 unfoldable pub clientPlain : Connection → Switches → List ℕ → Bool → Told → Decision
-clientPlain c s i e t = decision (toldNumber c s i e t) (toldOutcome s i e t) (clientFlag c t) 0
+clientPlain c s i e t = decision (toldNumber c s i e t) (clientOutcome s i e t) (clientFlag c t) 0
 
-abbrev pub isSome : Option Bool → Bool
-isSome none = false
-isSome (some e) = true
+-- what is weighed of a session, as the table knows it
+abbrev pub originalIn : Known → Option Original
+originalIn known.Nothing = none
+originalIn known.WithoutEms = some (record { ems = false })
+originalIn known.WithEms = some (record { ems = true })
 
--- what the table knows of a session
-abbrev pub emsKnown : Known → Option Bool
-emsKnown known.Nothing = none
-emsKnown known.WithoutEms = some false
-emsKnown known.WithEms = some true
-
--- the session of a hello, as some row has it and as the book that t keeps has it
+-- the session of a hello, as some book has it and as the book that t keeps has it
 pub record SessionIs (t : Table) (axle : ℕ) (r : Reading) (k : Known) : Type 0 where
-  pub row : Book
-  pub of-row : emsKnown k ≡ sessionIn axle r row
-  pub answers : (b : Book) → Keeps t b → emsKnown k ≡ sessionIn axle r b
+  pub book : Book
+  pub of-book : originalIn k ≡ sessionIn axle r book
+  pub answers : (b : Book) → Keeps t b → originalIn k ≡ sessionIn axle r b

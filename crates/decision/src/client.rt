@@ -15,8 +15,8 @@ ghost use mathlib.Core.Bool.{Bool};
 ghost use mathlib.Core.List.{List};
 ghost use Prim.Native.Nat.{ℕ};
 ghost use Rattle.hello.specs.Fields.{readServer};
-ghost use Rattle.decision.specs.Client.{Told, told, lentEms, badOffer, clientResumes, clientDecision};
-ghost use Rattle.decision.specs.Steps.{riOf, lentOf, toldOf, clientPlain, ServerWas};
+ghost use Rattle.decision.specs.Client.{Told, told, lentOf, lentEms, badOffer, clientResumes, clientDecision};
+ghost use Rattle.decision.specs.Steps.{riOf, toldOf, clientPlain, ServerWas};
 
 // On a ServerHello, for the identifier that was offered, empty if none was. Where `lent` says so, `identifier` and `session_ems` are
 // those of the session that is offered.

@@ -9,7 +9,7 @@ ghost use mathlib.Core.List.{[], _∷_, _++_};
 ghost use Rattle.seqs.specs.Pick.{pick};
 ghost use Rattle.refusal.specs.First.{firstOf};
 ghost use Rattle.decision.specs.Connection.{later, closed, present, saying, wrongFirst};
-ghost use Rattle.decision.specs.Steps.{riOf, serverTurn, clientTurn};
+ghost use Rattle.decision.specs.Steps.{riOf, serverIndication, clientIndication};
 
 fn is_closed(connection: Connection) -> bool
     ensures { λ r. ⌜ r ≡ closed connection ⌝ }
@@ -54,7 +54,7 @@ pub(crate) fn server_indication(
     connection: Connection,
     switches: Switches,
 ) -> u8
-    ensures { λ r. ⌜ r ≡ serverTurn connection switches signal (riOf indicated (now (indication .entry))) ⌝ }
+    ensures { λ r. ⌜ r ≡ serverIndication connection switches signal (riOf indicated (now (indication .entry))) ⌝ }
 {
     if connection.completed == 0 {
         if wrong_first(signal, indicated, indication, switches) {
@@ -66,7 +66,7 @@ pub(crate) fn server_indication(
         return 9;
     }
     if signal {
-        return 5;
+        return 5; // 'If the SCSV is present, the server MUST abort the handshake' (RFC 5746, section 3.7)
     }
     let client = connection.client;
     if says(indicated, indication, &client) {
@@ -82,7 +82,7 @@ pub(crate) fn client_indication(
     connection: Connection,
     switches: Switches,
 ) -> u8
-    ensures { λ r. ⌜ r ≡ clientTurn connection switches (riOf indicated (now (indication .entry))) ⌝ }
+    ensures { λ r. ⌜ r ≡ clientIndication connection switches (riOf indicated (now (indication .entry))) ⌝ }
 {
     if connection.completed == 0 {
         if wrong_first(false, indicated, indication, switches) {

@@ -3,14 +3,17 @@ use crate::connection::Decision;
 use crate::connection::Switches;
 use refusal::Refusal;
 use refusal::refuse;
+use sessions::Known;
 ghost use mathlib.Core.Path.{_≡_};
+ghost use mathlib.Core.Bool.{true, false};
 ghost use Rattle.seqs.specs.Flag.{bit};
 ghost use Rattle.seqs.specs.Pick.{pick};
 ghost use Rattle.refusal.specs.Table.{refusalOf};
-ghost use Rattle.decision.specs.Connection.{allowed, legacyResumption, resumedLegacy, forbidden, withEms};
-ghost use Rattle.decision.specs.Server.{serverOutcome};
+ghost use Rattle.decision.specs.Connection.{allowed, legacyResumption, resumedLegacy, forbidden, usesEms, refusing};
+ghost use Rattle.decision.specs.Server.{resumable, serverOutcome};
 ghost use Rattle.decision.specs.Client.{resumption, fullness};
-ghost use Rattle.decision.specs.Steps.{sessionOf, outcomeIn, decidedIn, refusing};
+ghost use Rattle.decision.specs.declared.connection.Switches.{Switches};
+ghost use Rattle.decision.specs.Steps.{originalIn, outcomeIn, decidedIn};
 
 pub(crate) enum Reached {
     Forbidden,
@@ -21,27 +24,34 @@ pub(crate) enum Reached {
 }
 
 // The server's six rows: by the session, with EMS or not, or none, and by the hello's EMS.
-pub(crate) fn server_outcome(
-    known: bool,
-    session_ems: bool,
-    ems: bool,
-    switches: Switches,
-) -> Reached
-    ensures { λ r. ⌜ outcomeIn r ≡ serverOutcome switches (sessionOf known «session_ems») ems ⌝ }
+pub(crate) fn server_outcome(session: Known, ems: bool, switches: Switches) -> Reached
+    ensures { λ r. ⌜ outcomeIn r ≡ serverOutcome switches (originalIn session) ems ⌝ }
 {
-    if known {
-        if session_ems {
-            if ems {
-                return Reached::ResumedEms;
-            }
-            return Reached::Forbidden;
-        }
-        if ems {
-            return Reached::FullEms;
-        }
-        return legacy_resumption(switches);
+    match session {
+        Known::Nothing => full(ems, switches),
+        Known::WithoutEms => original_without(ems, switches),
+        Known::WithEms => original_with(ems),
     }
-    full(ems, switches)
+}
+
+// Of a session without EMS: a hello with EMS makes a new one.
+fn original_without(ems: bool, switches: Switches) -> Reached
+    ensures { λ r. ⌜ outcomeIn r ≡ resumable switches false ems ⌝ }
+{
+    if ems {
+        return Reached::FullEms;
+    }
+    legacy_resumption(switches)
+}
+
+// Of a session with EMS: a hello without EMS must not go on.
+fn original_with(ems: bool) -> Reached
+    ensures { λ r. ⌜ ((s : Switches) → outcomeIn r ≡ resumable s true ems) ⌝ }
+{
+    if ems {
+        return Reached::ResumedEms;
+    }
+    Reached::Forbidden
 }
 
 // Full: EMS, else legacy if that is allowed.
@@ -110,7 +120,7 @@ pub(crate) fn is_forbidden(outcome: Reached) -> bool
 }
 
 pub(crate) fn uses_ems(outcome: Reached) -> bool
-    ensures { λ r. ⌜ r ≡ withEms (outcomeIn outcome) ⌝ }
+    ensures { λ r. ⌜ r ≡ usesEms (outcomeIn outcome) ⌝ }
 {
     match outcome {
         Reached::FullEms => true,

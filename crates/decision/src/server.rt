@@ -16,11 +16,10 @@ use refusal::refuse;
 use sessions::Known;
 use sessions::Table;
 ghost use mathlib.Core.Path.{_≡_};
-ghost use mathlib.Core.Bool.{Bool};
 ghost use Rattle.sessions.specs.Book.{badAxle};
 ghost use Rattle.hello.specs.Fields.{readClient};
 ghost use Rattle.decision.specs.Server.{asked, ServerDecides};
-ghost use Rattle.decision.specs.Steps.{riOf, sessionOf, askedOf, ClientWas, Plain, emsKnown, SessionIs, isSome};
+ghost use Rattle.decision.specs.Steps.{riOf, askedOf, ClientWas, Plain, originalIn, SessionIs};
 
 // On a ClientHello of an axle, whose session is looked up in the table. The reply's extensions go to the front of `out`.
 pub fn decide_server(
@@ -41,15 +40,7 @@ pub fn decide_server(
         return refused(read.refusal());
     };
     let session = session_of(message, hello, axle, table);
-    judge_client_hello(
-        message,
-        hello,
-        is_known(session),
-        is_with_ems(session),
-        connection,
-        switches,
-        out,
-    )
+    judge_client_hello(message, hello, session, connection, switches, out)
 }
 
 fn is_bad(axle: u8) -> bool
@@ -76,38 +67,17 @@ fn session_of(message: &[u8], hello: ClientHello, axle: u8, table: Table) -> Kno
     table.known(axle, &message[at..end])
 }
 
-fn is_known(session: Known) -> bool
-    ensures { λ r. ⌜ r ≡ isSome (emsKnown session) ⌝ }
-{
-    match session {
-        Known::Nothing => false,
-        Known::WithoutEms => true,
-        Known::WithEms => true,
-    }
-}
-
-fn is_with_ems(session: Known) -> bool
-    ensures { λ r. ⌜ ((known : Bool) → known ≡ isSome (emsKnown session) → sessionOf known r ≡ emsKnown session) ⌝ }
-{
-    match session {
-        Known::Nothing => false,
-        Known::WithoutEms => false,
-        Known::WithEms => true,
-    }
-}
-
 // On a ClientHello that was read.
 fn judge_client_hello(
     message: &[u8],
     hello: ClientHello,
-    known: bool,
-    session_ems: bool,
+    session: Known,
     connection: Connection,
     switches: Switches,
     out: &mut [u8],
 ) -> Decision
     requires { ⌜ ClientWas (now message) hello ⌝ }
-    ensures { λ r. ⌜ Plain connection switches (sessionOf known «session_ems») (now (out .entry)) (asked (readClient (now (message .entry)))) r (now (out .exit)) ⌝ }
+    ensures { λ r. ⌜ Plain connection switches (originalIn session) (now (out .entry)) (asked (readClient (now (message .entry)))) r (now (out .exit)) ⌝ }
 {
     let extensions = hello.extensions;
     let indication = extensions.indication;
@@ -118,8 +88,7 @@ fn judge_client_hello(
         extensions.indicated != 0,
         &message[at..end],
         extensions.ems != 0,
-        known,
-        session_ems,
+        session,
         connection,
         switches,
         out,
@@ -132,19 +101,18 @@ fn judge_asked(
     indicated: bool,
     indication: &[u8],
     ems: bool,
-    known: bool,
-    session_ems: bool,
+    session: Known,
     connection: Connection,
     switches: Switches,
     out: &mut [u8],
 ) -> Decision
-    ensures { λ r. ⌜ Plain connection switches (sessionOf known «session_ems») (now (out .entry)) (askedOf signal (riOf indicated (now (indication .entry))) ems) r (now (out .exit)) ⌝ }
+    ensures { λ r. ⌜ Plain connection switches (originalIn session) (now (out .entry)) (askedOf signal (riOf indicated (now (indication .entry))) ems) r (now (out .exit)) ⌝ }
 {
     let number = server_indication(signal, indicated, indication, connection, switches);
     if number != 0 {
         return refused(refuse(number));
     }
-    let outcome = server_outcome(known, session_ems, ems, switches);
+    let outcome = server_outcome(session, ems, switches);
     if is_forbidden(outcome) {
         return refused(refuse(6));
     }

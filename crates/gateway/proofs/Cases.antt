@@ -12,7 +12,7 @@ use Rattle.hello.specs.Fields.{opening, closing, clientLayout, signalIn, helloN
 use Rattle.hello.specs.Written.{writtenList, writtenBlock}
 use Rattle.decision.specs.Connection.{closed, wrongFirst, decided, decision}
 use Rattle.decision.specs.Reply.{replyList, replyOf}
-use Rattle.decision.specs.Server.{serverWrong, serverFlag, serverOutcome, serverReply, serverNumber, serverDecision}
+use Rattle.decision.specs.Server.{serverWrong, serverFlag, resumable, serverOutcome, serverReply, serverNumber, serverDecision}
 use Rattle.log.specs.Order.{turns, look, number, somewhere}
 use Rattle.log.specs.History.{placeOf, hashed, remembered}
 use Rattle.log.specs.Calls.{wrongBody, misshapen, outOfTurn, isMessage, unchecked, acceptNumber, afterAccept}
@@ -20,13 +20,14 @@ use Rattle.sessions.specs.Book as book
 use Rattle.gateway.specs.Cases.{Cases, numbersFrom, heldBy}
 
 pub cases : Cases
-unfolding firstOf refusalOf same byteAt pairAt tripleAt kindOf bodyOf overlong misstated big field counted vector shaped extension listOf extensionsOf has twice contentOf indicationOf opening closing clientLayout signalIn helloNumber readClient writtenList writtenBlock closed wrongFirst decided decision replyList replyOf serverWrong serverFlag serverOutcome serverReply serverNumber serverDecision turns look number somewhere placeOf hashed remembered wrongBody misshapen outOfTurn isMessage unchecked acceptNumber afterAccept book.many book.oldest book.strike book.isOf book.isName book.isNamed book.fuller book.fullest book.struck book.written book.badAxle book.badName book.badSecret book.storeNumber book.after book.bookFrom numbersFrom heldBy
+unfolding firstOf refusalOf same byteAt pairAt tripleAt kindOf bodyOf overlong misstated big field counted vector shaped extension listOf extensionsOf has twice contentOf indicationOf opening closing clientLayout signalIn helloNumber readClient writtenList writtenBlock closed wrongFirst decided decision replyList replyOf serverWrong serverFlag resumable serverOutcome serverReply serverNumber serverDecision turns look number somewhere placeOf hashed remembered wrongBody misshapen outOfTurn isMessage unchecked acceptNumber afterAccept book.many book.oldest book.strike book.isOf book.isName book.isNamed book.fuller book.fullest book.struck book.written book.badAxle book.badName book.badSecret book.storeNumber book.after book.bookFrom numbersFrom heldBy
 cases =
     record {
       empty-ri = refl;
       ems = refl;
       ems-with-data = refl;
-      ems-lost = refl;
+      ems-lost = λ s. refl;
+      ems-lost-bare = λ x. refl;
       ems-new = refl;
       flag-clear = refl;
       early-finished = refl;

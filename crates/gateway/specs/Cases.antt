@@ -24,9 +24,9 @@ use Rattle.log.specs.Calls.{acceptNumber, afterAccept}
 -- ---- readings
 
 -- what a list of extensions says, where it is one
-abbrev pub saying : {A : Type 0} → (List Extension → A) → Parse (List Extension) → Parse A
-saying f malformed = malformed
-saying f (holds es) = holds (f es)
+abbrev pub inList : {A : Type 0} → (List Extension → A) → Parse (List Extension) → Parse A
+inList f malformed = malformed
+inList f (holds es) = holds (f es)
 
 -- ---- the server's decision
 
@@ -38,11 +38,14 @@ message kind body = kind ∷ 0 ∷ 0 ∷ length body ∷ body
 abbrev pub hello : List ℕ → List ℕ
 hello block = message 1 ((3 ∷ 3 ∷ []) ++ replicate 32 0 ++ (1 ∷ 7 ∷ 0 ∷ 2 ∷ 0 ∷ 47 ∷ 1 ∷ 0 ∷ []) ++ block)
 
-abbrev pub withoutEms : List ℕ
-withoutEms = hello []
+abbrev pub bareHello : List ℕ
+bareHello = hello []
 
-abbrev pub withEms : List ℕ
-withEms = hello (0x00 ∷ 0x04 ∷ 0x00 ∷ 0x17 ∷ 0x00 ∷ 0x00 ∷ [])
+abbrev pub riHello : List ℕ
+riHello = hello (0x00 ∷ 0x05 ∷ 0xff ∷ 0x01 ∷ 0x00 ∷ 0x01 ∷ 0x00 ∷ [])
+
+abbrev pub emsHello : List ℕ
+emsHello = hello (0x00 ∷ 0x04 ∷ 0x00 ∷ 0x17 ∷ 0x00 ∷ 0x00 ∷ [])
 
 abbrev pub connection : ℕ → ℕ → Connection
 connection completed indication =
@@ -67,7 +70,7 @@ numbersFrom h (m ∷ ms) = acceptNumber h m false ∷ numbersFrom (afterAccept h
 -- n stores of an axle, each under an identifier of its own: from, from + 1, ..
 abbrev pub stores : ℕ → ℕ → ℕ → List Call
 stores axle from zero = []
-stores axle from (suc n) = store axle (from ∷ []) true (replicate 48 0) ∷ stores axle (from + 1) n
+stores axle from (suc n) = store (record { axle = axle; identifier = from ∷ []; ems = true; secret = replicate 48 0 }) ∷ stores axle (from + 1) n
 
 -- what axles 1 to 6 hold after these calls, from empty
 unfoldable pub heldBy : List Call → List ℕ
@@ -83,17 +86,18 @@ crowded = stores 1 0 8 ++ stores 2 10 8 ++ stores 3 20 8 ++ stores 4 30 8 ++ sto
 
 pub record Cases : Type 0 where
   -- 'ff 01 00 01 00 is an empty RI.'
-  pub empty-ri : saying indicationOf (extensionsOf (0xff ∷ 0x01 ∷ 0x00 ∷ 0x01 ∷ 0x00 ∷ [])) ≡ holds (some [])
+  pub empty-ri : inList indicationOf (extensionsOf (0xff ∷ 0x01 ∷ 0x00 ∷ 0x01 ∷ 0x00 ∷ [])) ≡ holds (some [])
   -- '00 17 00 00 is EMS.'
-  pub ems : saying emsOf (extensionsOf (0x00 ∷ 0x17 ∷ 0x00 ∷ 0x00 ∷ [])) ≡ holds true
+  pub ems : inList emsOf (extensionsOf (0x00 ∷ 0x17 ∷ 0x00 ∷ 0x00 ∷ [])) ≡ holds true
   -- '00 17 00 01 00 is malformed.'
   pub ems-with-data : extensionsOf (0x00 ∷ 0x17 ∷ 0x00 ∷ 0x01 ∷ 0x00 ∷ []) ≡ malformed
-  -- 'session with EMS, hello without: 6.' Whatever is allowed.
-  pub ems-lost : serverNumber 1 (readClient withoutEms) (some true) (connection 0 0) (legacy 1) room ≡ 6
+  -- 'session with EMS, hello without: 6.' With RI whatever the switches are; without, where the indication is not required.
+  pub ems-lost : (s : Switches) → serverNumber 1 (readClient riHello) (some (record { ems = true })) (connection 0 0) s room ≡ 6
+  pub ems-lost-bare : (x : ℕ) → serverNumber 1 (readClient bareHello) (some (record { ems = true })) (connection 0 0) (legacy x) room ≡ 6
   -- 'without, hello with: full.' With EMS, and 6 bytes of reply.
-  pub ems-new : serverDecision 1 (readClient withEms) (some false) (connection 0 0) (legacy 0) room ≡ decided fullEms false 6
+  pub ems-new : serverDecision 1 (readClient emsHello) (some (record { ems = false })) (connection 0 0) (legacy 0) room ≡ decided fullEms false 6
   -- 'later handshake, flag clear: 9.'
-  pub flag-clear : serverNumber 1 (readClient withEms) none (connection 1 0) (legacy 1) room ≡ 9
+  pub flag-clear : serverNumber 1 (readClient emsHello) none (connection 1 0) (legacy 1) room ≡ 9
   -- 'log 1, 2, 20 not told it resumes: 7 at the third.'
   pub early-finished : numbersFrom fresh (message 1 [] ∷ message 2 [] ∷ message 20 (replicate 12 0) ∷ []) ≡ 0 ∷ 0 ∷ 7 ∷ []
   -- 'type 0 first leaves the hash empty.'

@@ -24,7 +24,7 @@ pub extern "C" fn axle_table_store(
     ems: u8,
     secret: &[u8],
 ) -> Stored
-    ensures { λ r. ⌜ Stores table axle (now (identifier .entry)) (yes ems) (now (secret .entry)) r ⌝ }
+    ensures { λ r. ⌜ Stores table (record { axle = axle; identifier = now (identifier .entry); ems = yes ems; secret = now (secret .entry) }) r ⌝ }
 {
     table.store(axle, identifier, ems != 0, secret)
 }

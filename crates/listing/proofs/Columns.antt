@@ -7,7 +7,7 @@ use native.Mathlib.Omega.{arith}
 use lib.ListN.{length, getD}
 use borrow.Author.Tests.{eq-eqb, ne-eqb}
 use Rattle.message.specs.Frame.{kindOf}
-use Rattle.listing.specs.Listing.{kindColumn, decided, helloColumn}
+use Rattle.listing.specs.Listing.{kindColumn, decisionNumber, helloColumn}
 use Rattle.listing.specs.declared.line.Column.the-variants.{Nothing, Number}
 
 pub kind-none : (m : List ℕ) → length m ≡ 0 → kindColumn m ≡ Nothing
@@ -29,6 +29,6 @@ module _ (n : ℕ) (m : List ℕ) where
   unfolding helloColumn
   hello-other e h = rw (eq-eqb n 0 e, ne-eqb (kindOf m) 1 h)
 
-  pub hello-decided : n ≡ 0 → kindOf m ≡ 1 → helloColumn n m ≡ Number (decided m)
+  pub hello-decided : n ≡ 0 → kindOf m ≡ 1 → helloColumn n m ≡ Number (decisionNumber m)
   unfolding helloColumn
   hello-decided e h = rw (eq-eqb n 0 e, eq-eqb (kindOf m) 1 h)

@@ -35,12 +35,12 @@ unfoldable pub decisionOn : List ℕ → Decision
 decisionOn m = serverDecision 1 (readClient m) (sessionIn 1 (readClient m) empty) freshConnection allOff (replicate 35 0)
 
 -- 'The hello column is the decision's number.'
-unfoldable pub decided : List ℕ → ℕ
-decided m = decisionOn m .refusal .number
+unfoldable pub decisionNumber : List ℕ → ℕ
+decisionNumber m = decisionOn m .refusal .number
 
 -- 'for an accepted type 1 it also prints the server decision': n is the log's number for the message
 unfoldable pub helloColumn : ℕ → List ℕ → Column
-helloColumn n m = pick (eqb n 0 && eqb (kindOf m) 1) (Number (decided m)) Nothing
+helloColumn n m = pick (eqb n 0 && eqb (kindOf m) 1) (Number (decisionNumber m)) Nothing
 
 -- 'It feeds a fresh log never told of resuming': the log's number for a message
 unfoldable pub logNumber : History → List ℕ → ℕ

@@ -8,7 +8,7 @@ use log::Log;
 use message::byte;
 use sessions::Table;
 ghost use mathlib.Core.Path.{_≡_};
-ghost use Rattle.listing.specs.Listing.{kindColumn, decided, helloColumn};
+ghost use Rattle.listing.specs.Listing.{kindColumn, decisionNumber, helloColumn};
 ghost use Rattle.listing.specs.Steps.{Feeds};
 
 const CLIENT_HELLO: usize = 1;
@@ -32,7 +32,7 @@ fn kind(message: &[u8]) -> Column
 
 // The server's decision on a ClientHello from nobody known: an empty table, a fresh connection, every switch off.
 fn decide(message: &[u8]) -> u8
-    ensures { λ r. ⌜ r ≡ decided (now (message .entry)) ⌝ }
+    ensures { λ r. ⌜ r ≡ decisionNumber (now (message .entry)) ⌝ }
 {
     let table = Table::fresh();
     let connection = Connection {

@@ -136,11 +136,11 @@ looked-reply a i out b =
     rw (row-number n, there-granted n (sought a i b), ems-granted n (sought a i b))
 
 module _ (t : Table) where
-  pub stored-steps : (a : ℕ) (i : List ℕ) (e : Bool) (s : List ℕ) (r : Stored) (bytes : List ℕ) → Stores t a i e s r → bytes ≡ reply (r .refusal .number) 0 0 0 []
-      → Steps t (store a i e s) (record { table = r .table; reply = bytes })
+  pub stored-steps : (s : Session) (r : Stored) (bytes : List ℕ) → Stores t s r → bytes ≡ reply (r .refusal .number) 0 0 0 []
+      → Steps t (store s) (record { table = r .table; reply = bytes })
   unfolding answer replyOf
-  stored-steps a i e s r bytes p q =
-      record { replied = λ b k. q ∙ (rw (p .refusal, row-number (storeNumber a i s))); keeps = p .keeps }
+  stored-steps s r bytes p q =
+      record { replied = λ b k. q ∙ (rw (p .refusal, row-number (storeNumber s))); keeps = p .keeps }
 
   pub withdrew-steps : (a : ℕ) (i : List ℕ) (r : Withdrawn) (bytes : List ℕ) → Withdraws t a i r → bytes ≡ reply (r .refusal .number) (r .withdrawn) 0 0 []
       → Steps t (withdraw a i) (record { table = r .table; reply = bytes })
@@ -195,7 +195,7 @@ looked-bytes n f e h lent w o v p q k l r =
 -- ---- the call in an entry, by its first byte
 
 module _ (e : List ℕ) where
-  pub call-store : getD e 0 0 ≡ 0 → callOf e ≡ store (getD e 1 0) (identifierIn e) (yes (getD e 3 0)) (lentIn e)
+  pub call-store : getD e 0 0 ≡ 0 → callOf e ≡ store (record { axle = getD e 1 0; identifier = identifierIn e; ems = yes (getD e 3 0); secret = lentIn e })
   unfolding callOf
   call-store h = rw (eq-eqb (getD e 0 0) 0 h)
 

@@ -39,7 +39,7 @@ lentIn e = take (min (getD e 4 0) 64) (drop 48 e)
 -- the call in 112 bytes
 unfoldable pub callOf : List ℕ → Call
 callOf e =
-    pick (eqb (getD e 0 0) 0) (store (getD e 1 0) (identifierIn e) (yes (getD e 3 0)) (lentIn e))
+    pick (eqb (getD e 0 0) 0) (store (record { axle = getD e 1 0; identifier = identifierIn e; ems = yes (getD e 3 0); secret = lentIn e }))
     (pick (eqb (getD e 0 0) 1) (lookUp (getD e 1 0) (identifierIn e) (lentIn e))
     (pick (eqb (getD e 0 0) 2) (withdraw (getD e 1 0) (identifierIn e))
     (pick (eqb (getD e 0 0) 3) (held (getD e 1 0))
@@ -71,6 +71,6 @@ unfoldable pub repliesOf : List Answer → List ℕ
 repliesOf [] = []
 repliesOf (a ∷ more) = replyOf a ++ repliesOf more
 
--- the book's answers to a script, from an empty row
+-- the book's answers to a script, from an empty book
 abbrev pub replies : List ℕ → List ℕ
 replies s = repliesOf (answersFrom empty (callsIn s))

@@ -31,7 +31,7 @@ fn head(number: u8, flag: u8, ems: u8, count: u8) -> [u8; 68]
 }
 
 fn stored(table: Table, axle: u8, identifier: &[u8], ems: bool, secret: &[u8]) -> Stepped
-    ensures { λ r. ⌜ Steps table (store axle (now (identifier .entry)) ems (now (secret .entry))) r ⌝ }
+    ensures { λ r. ⌜ Steps table (store (record { axle = axle; identifier = now (identifier .entry); ems = ems; secret = now (secret .entry) })) r ⌝ }
 {
     let r = table.store(axle, identifier, ems, secret);
     let number = r.refusal.number;

@@ -17,18 +17,18 @@ use Rattle.seqs.specs.Pick.{pick}
 use Rattle.refusal.specs.First.{firstOf}
 use Rattle.refusal.specs.Listed.{row-number}
 use Rattle.seqs.specs.Cases.{which}
-use Rattle.sessions.specs.Book.{Session, Book, session, empty, there, isNamed, sought, badName, tooShort, storeNumber, lookUpNumber, withdrawNumber, heldNumber, granted, handed, holds, isName, lookUp, Answer, looked, withdrew, counted, answer, after, answersFrom, bookFrom, numberOf}
+use Rattle.sessions.specs.Book.{Session, Book, empty, there, isNamed, sought, badName, tooShort, storeNumber, lookUpNumber, withdrawNumber, heldNumber, granted, handed, holds, isName, lookUp, Answer, looked, withdrew, counted, answer, after, answersFrom, bookFrom, numberOf}
 use Rattle.sessions.specs.History.{Event, History, callsOf, answersOf, latest, since, latestFrom, sinceFrom, noted, further}
 use Rattle.sessions.specs.Keeps.{Formed, Each, Keeps}
 use Rattle.sessions.specs.Promises.{LooksUp, withEms, lookedOf, outputOf, withdrawnOf, heldOf}
 use Rattle.sessions.specs.Demand3.{foundBy, Step, storing, looking, withdrawing, counting, clearing, Run, done, next, Theorem}
 use Rattle.sessions.specs.declared.table.Table.{Table}
 use Rattle.sessions.specs.declared.calls.Looked.{Looked}
-use Rattle.sessions.proofs.Rows.{oldest-meets, oldest-each}
+use Rattle.sessions.proofs.Books.{oldest-meets, oldest-each}
 use Rattle.sessions.proofs.Names.{named-name, name-axle, name-identifier}
 use Rattle.sessions.proofs.Track.{Track, track-none, track-call}
 
--- ---- a look-up hands back the session of the row
+-- ---- a look-up hands back the session of the book
 
 -- the output of a look-up that was not refused was long enough
 fits : (a : ℕ) (i out : List ℕ) (b : Book) (s : Session) → sought a i b ≡ some s → lookUpNumber a i out b ≡ 0 → length (s .secret) ≤ length out
@@ -46,7 +46,7 @@ fits a i out b s e z =
 -- flags and bytes, read again, are the session
 handed-back : (a : ℕ) (i out : List ℕ) (o : Option Session)
     → ((s : Session) → o ≡ some s → (s .axle ≡ a) × (s .identifier ≡ i) × (length (s .secret) ≡ 48) × (length (s .secret) ≤ length out))
-    → pick (yes (bit (there o))) (some (session a i (yes (bit (withEms o))) (take 48 (handed out o)))) none ≡ o
+    → pick (yes (bit (there o))) (some (record { axle = a; identifier = i; ems = yes (bit (withEms o)); secret = take 48 (handed out o) })) none ≡ o
 handed-back a i out none h = refl
 handed-back a i out (some s) h =
     let k = h s refl in
@@ -99,7 +99,7 @@ held-is a b = rw (row-number (heldNumber a))
 
 step-answer : (b : Book) (t t′ : Table) (e : Event) → Step t e t′ → Keeps t b → e .answer ≡ answer b (e .call)
 unfolding answer
-step-answer b t t′ e (storing {a = a} {i = i} {s = s} p) k = rw (p .refusal, row-number (storeNumber a i s))
+step-answer b t t′ e (storing {s = s} p) k = rw (p .refusal, row-number (storeNumber s))
 step-answer b t t′ e (looking {a = a} {i = i} {out = out} p) k =
     let q = p .answers b k in
     rw (q .returned, q .output) (looked-is a i out b (k .sound .formed))

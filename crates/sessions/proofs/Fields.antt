@@ -1,4 +1,4 @@
--- A row and its session: the bytes of a row are put and read as the session has them.
+-- An entry and its session: the bytes of an entry are put and read as the session has them.
 -- Assumes nothing.
 use mathlib.Core.Path.{_≡_}
 use mathlib.Core.Bool.{Bool, false}
@@ -12,9 +12,9 @@ use Rattle.seqs.specs.Cut.{take-measure}
 use Rattle.seqs.specs.Flag.{yes}
 use Rattle.octets.specs.Put.{putList}
 use Rattle.octets.specs.Same.{same}
-use Rattle.sessions.specs.Book.{session, isName, isNamed}
+use Rattle.sessions.specs.Book.{isName, isNamed}
 use Rattle.sessions.specs.Keeps.{sessionOf}
-use Rattle.sessions.specs.declared.row.Row.{Row}
+use Rattle.sessions.specs.declared.entry.Entry.{Entry}
 
 put-front : (d s : List ℕ) → length s ≤ length d → take (length s) (putList d s) ≡ s
 put-front d s h = rw (le-leb (length s) (length d) h, take-append-seam)
@@ -22,13 +22,13 @@ put-front d s h = rw (le-leb (length s) (length d) h, take-append-seam)
 put-whole : (d s : List ℕ) → length s ≡ length d → putList d s ≡ s
 put-whole d s e = rw (le-leb (length s) (length d) (omega arith), drop-of-length-le d {i = length s} (omega arith), append-nil)
 
--- a row that was put together: the identifier over 32 bytes, the secret over 48
-pub row-is : (a f : ℕ) (e : Bool) (i s n k d₁ d₂ : List ℕ) → yes f ≡ e → n ≡ putList d₁ i → length i ≤ length d₁ → k ≡ putList d₂ s → length s ≡ length d₂
-    → sessionOf (record { axle = a; ems = f; size = length i; identifier = n; secret = k }) ≡ session a i e s
+-- an entry that was put together: the identifier over 32 bytes, the secret over 48
+pub entry-is : (a f : ℕ) (e : Bool) (i s n k d₁ d₂ : List ℕ) → yes f ≡ e → n ≡ putList d₁ i → length i ≤ length d₁ → k ≡ putList d₂ s → length s ≡ length d₂
+    → sessionOf (record { axle = a; ems = f; size = length i; identifier = n; secret = k }) ≡ record { axle = a; identifier = i; ems = e; secret = s }
 unfolding sessionOf
-row-is a f e i s n k d₁ d₂ p q h r l = rw (p, q, r, put-front d₁ i h, put-whole d₂ s l)
+entry-is a f e i s n k d₁ d₂ p q h r l = rw (p, q, r, put-front d₁ i h, put-whole d₂ s l)
 
-module _ (a : ℕ) (i : List ℕ) (r : Row) where
+module _ (a : ℕ) (i : List ℕ) (r : Entry) where
   pub other-axle : (r .axle ≡ a → ⊥) → isNamed a i (sessionOf r) ≡ false
   unfolding isNamed isName sessionOf
   other-axle n = rw (ne-eqb (r .axle) a n)

@@ -1,4 +1,4 @@
--- The promises of the calls, from what the functions behind them ensure of the row that is in the table.
+-- The promises of the calls, from what the functions behind them ensure of the book that is in the table.
 -- Assumes nothing.
 use mathlib.Core.Path.{_≡_, refl, sym, _∙_, ap}
 use mathlib.Core.Bool.{Bool, true, false}
@@ -17,24 +17,24 @@ use Rattle.refusal.specs.declared.Refusal.{Refusal}
 use Rattle.octets.specs.Put.{putNumber, putList}
 use Rattle.refusal.specs.Listed.{row-number}
 use Rattle.seqs.specs.Cases.{which}
-use Rattle.sessions.specs.Book.{Book, session, empty, isNamed, holds, sought, struck, written, badAxle, badName, storeNumber, lookUpNumber, store, withdraw, after}
+use Rattle.sessions.specs.Book.{Session, Book, empty, isNamed, holds, sought, struck, written, badAxle, badName, storeNumber, lookUpNumber, store, withdraw, after}
 use Rattle.sessions.specs.Keeps.{Formed, sessionOf, bookOf, Keeps}
 use Rattle.sessions.specs.Places.{place}
 use Rattle.sessions.specs.Promises.{Stores, lookedOf, outputOf, LookedUp, LooksUp, withdrawnOf, Withdraws, heldOf, CountsHeld, knownOf, Knows}
-use Rattle.sessions.specs.declared.row.Row.{Row}
+use Rattle.sessions.specs.declared.entry.Entry.{Entry}
 use Rattle.sessions.specs.declared.table.Table.{Table}
 use Rattle.sessions.specs.declared.calls.Looked.{Looked}
 use Rattle.sessions.specs.declared.calls.Held.{Held}
 use Rattle.sessions.specs.declared.calls.Known.{Known}
 use Rattle.sessions.specs.declared.calls.Known.the-variants.{Nothing, WithoutEms, WithEms}
 use Rattle.sessions.proofs.Numbers.{withdraw-11, withdraw-0, look-11, look-none, look-10, look-0, held-11, held-0}
-use Rattle.sessions.proofs.Places.{noRow, book-at, place-strike, place-oldest, place-none}
+use Rattle.sessions.proofs.Places.{noEntry, book-at, place-strike, place-oldest, place-none}
 use Rattle.sessions.proofs.Sound.{good-store, sound-empty, sound-after, struck-fits}
 
 -- ---- an empty table
 
 pub keeps-empty : (t : Table) → bookOf t ≡ empty → Keeps t empty
-keeps-empty t e = record { row = e; sound = sound-empty }
+keeps-empty t e = record { book = e; sound = sound-empty }
 
 -- ---- store
 
@@ -46,12 +46,12 @@ cut-room at b h r l =
     (λ (y : ltb at (length b) ≡ false). let r′ : length b ≤ 31 = rw (cut-past at b (ltb-false at (length b) y)) at r in omega arith)
     (which (ltb at (length b)))
 
--- not refused: the lengths that a row has room for
-pub stored-formed : (a : ℕ) (i : List ℕ) (e : Bool) (s : List ℕ) (n : ℕ) → n ≡ storeNumber a i s → n ≡ 0 → Formed (session a i e s)
-stored-formed a i e s n num z = good-store a i e s (eq-eqb (storeNumber a i s) 0 (sym num ∙ z))
+-- not refused: the lengths that an entry has room for
+pub stored-formed : (s : Session) (n : ℕ) → n ≡ storeNumber s → n ≡ 0 → Formed s
+stored-formed s n num z = good-store s (eq-eqb (storeNumber s) 0 (sym num ∙ z))
 
-module _ (t : Table) (a : ℕ) (i : List ℕ) (e : Bool) (s : List ℕ) (n : ℕ) (f : Refusal) (num : n ≡ storeNumber a i s) (ref : f ≡ refusalOf n) where
-  pub stores-refused : (n ≡ 0 → ⊥) → Stores t a i e s (record { refusal = f; table = t })
+module _ (t : Table) (s : Session) (n : ℕ) (f : Refusal) (num : n ≡ storeNumber s) (ref : f ≡ refusalOf n) where
+  pub stores-refused : (n ≡ 0 → ⊥) → Stores t s (record { refusal = f; table = t })
   unfolding after
   stores-refused z =
       record {
@@ -60,22 +60,22 @@ module _ (t : Table) (a : ℕ) (i : List ℕ) (e : Bool) (s : List ℕ) (n : ℕ
         keeps = λ b k. rw (← num, ne-eqb n 0 z) k;
       }
 
-  module _ (at : ℕ) (row : Row) (t₂ : Table) (is : sessionOf row ≡ session a i e s) (goes : cut at (bookOf t) ≡ struck a i (bookOf t))
-      (within : at ≤ length (bookOf t)) (last : at < 32 → at ≤ length (bookOf t) → bookOf t₂ ≡ cut at (bookOf t) ++ (sessionOf row ∷ [])) where
-    stores-row : n ≡ 0 → (b : Book) → Keeps t b → bookOf t₂ ≡ after b (store a i e s)
+  module _ (at : ℕ) (entry : Entry) (t₂ : Table) (is : sessionOf entry ≡ s) (goes : cut at (bookOf t) ≡ struck (s .axle) (s .identifier) (bookOf t))
+      (within : at ≤ length (bookOf t)) (last : at < 32 → at ≤ length (bookOf t) → bookOf t₂ ≡ cut at (bookOf t) ++ (sessionOf entry ∷ [])) where
+    stores-book : n ≡ 0 → (b : Book) → Keeps t b → bookOf t₂ ≡ after b (store s)
     unfolding after written
-    stores-row z b k =
-        let left : cut at (bookOf t) ≡ struck a i b = goes ∙ ap (struck a i) (k .row) in
-        let room : length (cut at (bookOf t)) ≤ 31 = rw left (struck-fits a i b (k .sound)) in
-        let all : length (bookOf t) ≤ 32 = rw (k .row) (k .sound .thirty-two) in
+    stores-book z b k =
+        let left : cut at (bookOf t) ≡ struck (s .axle) (s .identifier) b = goes ∙ ap (struck (s .axle) (s .identifier)) (k .book) in
+        let room : length (cut at (bookOf t)) ≤ 31 = rw left (struck-fits (s .axle) (s .identifier) b (k .sound)) in
+        let all : length (bookOf t) ≤ 32 = rw (k .book) (k .sound .thirty-two) in
         last (cut-room at (bookOf t) within room all) within ∙ (rw (left, is, ← num, z))
 
-    pub stores-done : n ≡ 0 → Stores t a i e s (record { refusal = f; table = t₂ })
+    pub stores-done : n ≡ 0 → Stores t s (record { refusal = f; table = t₂ })
     stores-done z =
         record {
           refusal = ref ∙ ap refusalOf num;
           refused = λ w. absurd (w (rw (ref, row-number n) z));
-          keeps = λ b k. record { row = stores-row z b k; sound = sound-after b (store a i e s) (k .sound) };
+          keeps = λ b k. record { book = stores-book z b k; sound = sound-after b (store s) (k .sound) };
         }
 
 -- ---- look-up
@@ -84,24 +84,24 @@ pub looks-up : (t : Table) (a : ℕ) (i out : List ℕ) (r : Looked) (out′ : L
 unfolding lookedOf outputOf
 looks-up t a i out r out′ p =
     record {
-      row = bookOf t;
-      of-row = p;
+      book = bookOf t;
+      of-book = p;
       refused = λ w.
           let n = lookUpNumber a i out (bookOf t) in
           let z : n ≡ 0 → ⊥ = λ e. w (rw (p .returned, row-number n) e) in
           p .output ∙ (rw (ne-eqb n 0 z));
-      answers = λ b k. rw (k .row) at p;
+      answers = λ b k. rw (k .book) at p;
     }
 
 -- the session at the place that the search answered
-found-row : (t : Table) (a : ℕ) (i : List ℕ) (at : ℕ) → at ≡ place (isNamed a i) (bookOf t) → at < length (bookOf t)
-    → sought a i (bookOf t) ≡ some (sessionOf (getD (t .rows) at noRow))
-found-row t a i at is in-row =
-    place-oldest (isNamed a i) (bookOf t) (rw is at in-row)
-    ∙ ap some (rw (← is) (book-at t at in-row))
+found-entry : (t : Table) (a : ℕ) (i : List ℕ) (at : ℕ) → at ≡ place (isNamed a i) (bookOf t) → at < length (bookOf t)
+    → sought a i (bookOf t) ≡ some (sessionOf (getD (t .entries) at noEntry))
+found-entry t a i at is in-book =
+    place-oldest (isNamed a i) (bookOf t) (rw is at in-book)
+    ∙ ap some (rw (← is) (book-at t at in-book))
 
 -- its secret is put to the output, or not
-module _ (a : ℕ) (i out : List ℕ) (b : Book) (f : Refusal) (r : Row) (n : ℕ) (out′ : List ℕ) (good : badName a i ≡ false)
+module _ (a : ℕ) (i out : List ℕ) (b : Book) (f : Refusal) (r : Entry) (n : ℕ) (out′ : List ℕ) (good : badName a i ≡ false)
     (found : sought a i b ≡ some (sessionOf r)) (put : n ≡ putNumber out (r .secret)) (puts : out′ ≡ putList out (r .secret)) (ref : f ≡ refusalOf n) where
   looked-10 : (n ≡ 0 → ⊥) → LookedUp a i out b (record { refusal = f; found = 0; ems = 0 }) out′
   unfolding lookedOf outputOf sessionOf
@@ -140,17 +140,17 @@ module _ (t : Table) (a : ℕ) (i out : List ℕ) (f : Refusal) where
         (record { returned = rw (← look-none a i out (bookOf t) good z, z, e); output = rw (← look-none a i out (bookOf t) good z, z) })
 
     -- a session is found at a place
-    module _ (at : ℕ) (is : at ≡ place (isNamed a i) (bookOf t)) (in-row : at < length (bookOf t)) (n : ℕ) (out′ : List ℕ)
-        (put : n ≡ putNumber out (getD (t .rows) at noRow .secret)) (puts : out′ ≡ putList out (getD (t .rows) at noRow .secret)) (ref : f ≡ refusalOf n) where
+    module _ (at : ℕ) (is : at ≡ place (isNamed a i) (bookOf t)) (in-book : at < length (bookOf t)) (n : ℕ) (out′ : List ℕ)
+        (put : n ≡ putNumber out (getD (t .entries) at noEntry .secret)) (puts : out′ ≡ putList out (getD (t .entries) at noEntry .secret)) (ref : f ≡ refusalOf n) where
       pub looks-10 : (n ≡ 0 → ⊥) → LooksUp t a i out (record { refusal = f; found = 0; ems = 0 }) out′
       looks-10 z =
           looks-up t a i out (record { refusal = f; found = 0; ems = 0 }) out′
-          (looked-10 a i out (bookOf t) f (getD (t .rows) at noRow) n out′ good (found-row t a i at is in-row) put puts ref z)
+          (looked-10 a i out (bookOf t) f (getD (t .entries) at noEntry) n out′ good (found-entry t a i at is in-book) put puts ref z)
 
-      pub looks-0 : (m : ℕ) → m ≡ bit (yes (getD (t .rows) at noRow .ems)) → n ≡ 0 → LooksUp t a i out (record { refusal = f; found = 1; ems = m }) out′
+      pub looks-0 : (m : ℕ) → m ≡ bit (yes (getD (t .entries) at noEntry .ems)) → n ≡ 0 → LooksUp t a i out (record { refusal = f; found = 1; ems = m }) out′
       looks-0 m e z =
           looks-up t a i out (record { refusal = f; found = 1; ems = m }) out′
-          (rw e (looked-0 a i out (bookOf t) f (getD (t .rows) at noRow) n out′ good (found-row t a i at is in-row) put puts ref z))
+          (rw e (looked-0 a i out (bookOf t) f (getD (t .entries) at noEntry) n out′ good (found-entry t a i at is in-book) put puts ref z))
 
 -- ---- withdrawal
 
@@ -161,8 +161,8 @@ module _ (t : Table) (a : ℕ) (i : List ℕ) (f : Refusal) where
       let n = withdraw-11 a i h in
       record {
         refusal = e ∙ ap refusalOf n;
-        row = bookOf t;
-        of-row = rw (← n);
+        book = bookOf t;
+        of-book = rw (← n);
         refused = λ w. refl;
         answers = λ b k. rw (← n);
         keeps = λ b k. rw (← n) k;
@@ -175,14 +175,14 @@ module _ (t : Table) (a : ℕ) (i : List ℕ) (f : Refusal) where
         let n = withdraw-0 a i good in
         let z = place-none (isNamed a i) (bookOf t) h in
         let same : (b : Book) → Keeps t b → bookOf t ≡ after b (withdraw a i) =
-        λ b k. rw (← n, ← k .row) (sym (cut-past (place (isNamed a i) (bookOf t)) (bookOf t) h) ∙ place-strike (isNamed a i) (bookOf t)) in
+        λ b k. rw (← n, ← k .book) (sym (cut-past (place (isNamed a i) (bookOf t)) (bookOf t) h) ∙ place-strike (isNamed a i) (bookOf t)) in
         record {
           refusal = ref ∙ ap refusalOf n;
-          row = bookOf t;
-          of-row = rw (← n, z);
+          book = bookOf t;
+          of-book = rw (← n, z);
           refused = λ w. refl;
-          answers = λ b k. rw (← n, ← k .row, z);
-          keeps = λ b k. record { row = same b k; sound = sound-after b (withdraw a i) (k .sound) };
+          answers = λ b k. rw (← n, ← k .book, z);
+          keeps = λ b k. record { book = same b k; sound = sound-after b (withdraw a i) (k .sound) };
         }
 
     pub withdraws-one : (at : ℕ) (t′ : Table) → at ≡ place (isNamed a i) (bookOf t) → at < length (bookOf t) → bookOf t′ ≡ cut at (bookOf t)
@@ -190,20 +190,20 @@ module _ (t : Table) (a : ℕ) (i : List ℕ) (f : Refusal) where
     unfolding withdrawnOf after
     withdraws-one at t′ is h gone =
         let n = withdraw-0 a i good in
-        let z = found-row t a i at is h in
+        let z = found-entry t a i at is h in
         record {
           refusal = ref ∙ ap refusalOf n;
-          row = bookOf t;
-          of-row = rw (← n, z);
+          book = bookOf t;
+          of-book = rw (← n, z);
           refused = λ w. absurd (w (rw (ref, row-number 0)));
-          answers = λ b k. rw (← n, ← k .row, z);
-          keeps = λ b k. record { row = gone ∙ (rw (is, ← n, ← k .row) (place-strike (isNamed a i) (bookOf t))); sound = sound-after b (withdraw a i) (k .sound) };
+          answers = λ b k. rw (← n, ← k .book, z);
+          keeps = λ b k. record { book = gone ∙ (rw (is, ← n, ← k .book) (place-strike (isNamed a i) (bookOf t))); sound = sound-after b (withdraw a i) (k .sound) };
         }
 
 -- ---- number held
 
 counts-held : (t : Table) (a : ℕ) (r : Held) → r ≡ heldOf a (bookOf t) → CountsHeld t a r
-counts-held t a r p = record { row = bookOf t; of-row = p; answers = λ b k. rw (k .row) at p }
+counts-held t a r p = record { book = bookOf t; of-book = p; answers = λ b k. rw (k .book) at p }
 
 module _ (t : Table) (a : ℕ) (f : Refusal) where
   pub counts-11 : badAxle a ≡ true → f ≡ refusalOf 11 → CountsHeld t a (record { refusal = f; count = 0 })
@@ -217,17 +217,17 @@ module _ (t : Table) (a : ℕ) (f : Refusal) where
 -- ---- what is known
 
 knows : (t : Table) (a : ℕ) (i : List ℕ) (r : Known) → r ≡ knownOf (sought a i (bookOf t)) → Knows t a i r
-knows t a i r p = record { row = bookOf t; of-row = p; answers = λ b k. rw (k .row) at p }
+knows t a i r p = record { book = bookOf t; of-book = p; answers = λ b k. rw (k .book) at p }
 
 module _ (t : Table) (a : ℕ) (i : List ℕ) where
   pub knows-nothing : length (bookOf t) ≤ place (isNamed a i) (bookOf t) → Knows t a i Nothing
   knows-nothing h = knows t a i Nothing (rw (place-none (isNamed a i) (bookOf t) h))
 
   module _ (at : ℕ) (is : at ≡ place (isNamed a i) (bookOf t)) (h : at < length (bookOf t)) where
-    pub knows-without : getD (t .rows) at noRow .ems ≡ 0 → Knows t a i WithoutEms
+    pub knows-without : getD (t .entries) at noEntry .ems ≡ 0 → Knows t a i WithoutEms
     unfolding sessionOf
-    knows-without e = knows t a i WithoutEms (rw (found-row t a i at is h, e))
+    knows-without e = knows t a i WithoutEms (rw (found-entry t a i at is h, e))
 
-    pub knows-with : (getD (t .rows) at noRow .ems ≡ 0 → ⊥) → Knows t a i WithEms
+    pub knows-with : (getD (t .entries) at noEntry .ems ≡ 0 → ⊥) → Knows t a i WithEms
     unfolding sessionOf
-    knows-with e = knows t a i WithEms (rw (found-row t a i at is h, ne-eqb (getD (t .rows) at noRow .ems) 0 e))
+    knows-with e = knows t a i WithEms (rw (found-entry t a i at is h, ne-eqb (getD (t .entries) at noEntry .ems) 0 e))

@@ -1,4 +1,4 @@
-pub mod Rows
+pub mod Books
 pub mod Names
 pub mod Struck
 pub mod Sound
@@ -9,3 +9,4 @@ pub mod Fields
 pub mod Eviction
 pub mod Numbers
 pub mod Kept
+pub mod Total

@@ -44,19 +44,20 @@ module _ (a : ℕ) (i : List ℕ) where
 
 -- ---- the numbers
 
-module _ (a : ℕ) (i : List ℕ) where
-  pub store-11 : (s : List ℕ) → badName a i ≡ true → 11 ≡ storeNumber a i s
+module _ (s : Session) where
+  pub store-11 : badName (s .axle) (s .identifier) ≡ true → 11 ≡ storeNumber s
   unfolding storeNumber firstOf
-  store-11 s e = rw e
+  store-11 e = rw e
 
-  pub store-10 : (s : List ℕ) → badName a i ≡ false → (length s ≡ 48 → ⊥) → 10 ≡ storeNumber a i s
+  pub store-10 : badName (s .axle) (s .identifier) ≡ false → (length (s .secret) ≡ 48 → ⊥) → 10 ≡ storeNumber s
   unfolding storeNumber firstOf badSecret
-  store-10 s e n = rw (e, ne-eqb (length s) 48 n)
+  store-10 e n = rw (e, ne-eqb (length (s .secret)) 48 n)
 
-  pub store-0 : (s : List ℕ) → badName a i ≡ false → length s ≡ 48 → 0 ≡ storeNumber a i s
+  pub store-0 : badName (s .axle) (s .identifier) ≡ false → length (s .secret) ≡ 48 → 0 ≡ storeNumber s
   unfolding storeNumber firstOf badSecret
-  store-0 s e n = rw (e, eq-eqb (length s) 48 n)
+  store-0 e n = rw (e, eq-eqb (length (s .secret)) 48 n)
 
+module _ (a : ℕ) (i : List ℕ) where
   pub withdraw-11 : badName a i ≡ true → 11 ≡ withdrawNumber a i
   unfolding withdrawNumber firstOf
   withdraw-11 e = rw e

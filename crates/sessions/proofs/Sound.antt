@@ -12,13 +12,13 @@ use lib.ListN.{length, length-append}
 use borrow.Author.Tests.{eqb-true, leb-true}
 use Rattle.refusal.specs.First.{firstOf}
 use Rattle.seqs.specs.Cases.{and-left, and-right, or-left, or-right, which}
-use Rattle.sessions.specs.Book.{Session, Book, session, many, strike, isOf, isName, isNamed, holds, fullest, struck, written, badAxle, badName, badSecret, storeNumber, withdrawNumber, Call, store, lookUp, withdraw, held, clear, after, empty}
+use Rattle.sessions.specs.Book.{Session, Book, many, strike, isOf, isName, isNamed, holds, fullest, struck, written, badAxle, badName, badSecret, storeNumber, withdrawNumber, Call, store, lookUp, withdraw, held, clear, after, empty}
 use Rattle.sessions.specs.Keeps.{Formed, Each, Sound}
-use Rattle.sessions.proofs.Rows.{many-append, strike-length, strike-shorter, many-strike, within-many}
+use Rattle.sessions.proofs.Books.{many-append, strike-length, strike-shorter, many-strike, within-many}
 use Rattle.sessions.proofs.Names.{name-axle, name-identifier, axle-of, named-of}
 use Rattle.sessions.proofs.Struck.{Struck, renewed, own, room, other, struck-is, fullest-six}
 
--- ---- the sessions of a row, each
+-- ---- the sessions of a book, each
 
 pub each-strike : (P : Session → Type 0) (p : Session → Bool) (b : Book) → Each P b → Each P (strike p b)
 unfolding strike
@@ -52,19 +52,19 @@ good-name a i e =
     let y = between 1 n 32 (or-right (badAxle a) (not (leb 1 n && leb n 32)) e) in
     (x .0, x .1, y .0, y .1)
 
-pub good-store : (a : ℕ) (i : List ℕ) (e : Bool) (s : List ℕ) → eqb (storeNumber a i s) 0 ≡ true → Formed (session a i e s)
+pub good-store : (s : Session) → eqb (storeNumber s) 0 ≡ true → Formed s
 unfolding storeNumber firstOf badSecret
-good-store a i e s z =
+good-store s z =
     ⊎-elim
-    (λ (h : badName a i ≡ true). absurd (false≢true (rw h at z)))
-    (λ (h : badName a i ≡ false).
+    (λ (h : badName (s .axle) (s .identifier) ≡ true). absurd (false≢true (rw h at z)))
+    (λ (h : badName (s .axle) (s .identifier) ≡ false).
     ⊎-elim
-    (λ (k : eqb (length s) 48 ≡ true).
-    let g = good-name a i h in
-    record { axle-from = g .0; axle-to = g .1; identifier-from = g .2; identifier-to = g .3; secret-is = eqb-true (length s) 48 k })
-    (λ (k : eqb (length s) 48 ≡ false). absurd (false≢true (rw (h, k) at z)))
-    (which (eqb (length s) 48)))
-    (which (badName a i))
+    (λ (k : eqb (length (s .secret)) 48 ≡ true).
+    let g = good-name (s .axle) (s .identifier) h in
+    record { axle-from = g .0; axle-to = g .1; identifier-from = g .2; identifier-to = g .3; secret-is = eqb-true (length (s .secret)) 48 k })
+    (λ (k : eqb (length (s .secret)) 48 ≡ false). absurd (false≢true (rw (h, k) at z)))
+    (which (eqb (length (s .secret)) 48)))
+    (which (badName (s .axle) (s .identifier)))
 
 -- ---- what the strike of a store leaves
 
@@ -161,11 +161,11 @@ sound-empty = record { formed = tt; distinct = λ a i. omega arith; eight = λ a
 
 pub sound-after : (b : Book) (c : Call) → Sound b → Sound (after b c)
 unfolding after
-sound-after b (store a i e s) g =
+sound-after b (store s) g =
     ⊎-elim
-    (λ (z : eqb (storeNumber a i s) 0 ≡ true). rw z (sound-written (session a i e s) b (good-store a i e s z) g))
-    (λ (z : eqb (storeNumber a i s) 0 ≡ false). rw z g)
-    (which (eqb (storeNumber a i s) 0))
+    (λ (z : eqb (storeNumber s) 0 ≡ true). rw z (sound-written s b (good-store s z) g))
+    (λ (z : eqb (storeNumber s) 0 ≡ false). rw z g)
+    (which (eqb (storeNumber s) 0))
 sound-after b (lookUp a i out) g = g
 sound-after b (withdraw a i) g =
     ⊎-elim

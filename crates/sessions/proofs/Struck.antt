@@ -1,4 +1,4 @@
--- The session that a store strikes out: document 01's five cases as they are put to use, and that one goes wherever the row is
+-- The session that a store strikes out: document 01's five cases as they are put to use, and that one goes wherever the book is
 -- full: of 32 sessions on six axles the axle with most has at least 6.
 -- Assumes nothing.
 use mathlib.Core.Path.{_≡_, refl}
@@ -14,7 +14,7 @@ use Rattle.seqs.specs.Pick.{pick}
 use Rattle.seqs.specs.Cases.{which}
 use Rattle.sessions.specs.Book.{Book, many, strike, there, isOf, isNamed, holds, sought, fuller, fullest, struck}
 use Rattle.sessions.specs.Keeps.{Formed, Each}
-use Rattle.sessions.proofs.Rows.{there-some, there-none}
+use Rattle.sessions.proofs.Books.{there-some, there-none}
 
 one-of-six : (a : ℕ) → 1 ≤ a → a ≤ 6
     → pick (eqb a 1) 1 0 + pick (eqb a 2) 1 0 + pick (eqb a 3) 1 0 + pick (eqb a 4) 1 0 + pick (eqb a 5) 1 0 + pick (eqb a 6) 1 0 ≡ 1
@@ -27,7 +27,7 @@ one-of-six (suc (suc (suc (suc (suc zero))))) h k = refl
 one-of-six (suc (suc (suc (suc (suc (suc zero)))))) h k = refl
 one-of-six (suc (suc (suc (suc (suc (suc (suc n))))))) h k = absurd (omega arith)
 
--- the six axles' sessions are the row's
+-- the six axles' sessions are the book's
 pub all-six : (b : Book) → Each Formed b → holds 1 b + holds 2 b + holds 3 b + holds 4 b + holds 5 b + holds 6 b ≡ length b
 unfolding many isOf
 all-six [] f = refl
@@ -59,7 +59,7 @@ fullest-six b f h =
     omega
     (arith, all-six b f, at-least-first b 1 2, at-least-second b 1 2, at-least-first b m2 3, at-least-second b m2 3, at-least-first b m3 4, at-least-second b m3 4, at-least-first b m4 5, at-least-second b m4 5, at-least-first b m5 6, at-least-second b m5 6)
 
--- the row that is left of b, by which session went
+-- the book that is left of b, by which session went
 pub data Struck (a : ℕ) (i : List ℕ) (b : Book) : Book → Type 0 where
   -- the one of that name
   renewed : 1 ≤ many (isNamed a i) b → Struck a i b (strike (isNamed a i) b)

@@ -1,5 +1,5 @@
--- A name through a list of calls: what the row has under it, beside what the calls say of its latest store. The stores of the
--- axle since then are at least as many as its sessions that stand behind it in the row. A session goes for another name's sake
+-- A name through a list of calls: what the book has under it, beside what the calls say of its latest store. The stores of the
+-- axle since then are at least as many as its sessions that stand behind it in the book. A session goes for another name's sake
 -- only as the oldest of its axle, where that holds 4 or more and stores itself, or 6 or more: so four stores since, or more.
 -- Assumes nothing.
 use mathlib.Core.Path.{_≡_, refl, sym, _∙_, ap}
@@ -14,15 +14,15 @@ use lib.Dec.{eqb}
 use borrow.Author.Tests.{eqb-true, eqb-false}
 use Rattle.seqs.specs.Pick.{pick}
 use Rattle.seqs.specs.Cases.{which}
-use Rattle.sessions.specs.Book.{Session, Book, session, many, oldest, strike, isOf, isName, isNamed, holds, sought, fullest, struck, written, storeNumber, withdrawNumber, Call, store, lookUp, withdraw, held, clear, answer, numberOf, after, empty}
+use Rattle.sessions.specs.Book.{Session, Book, many, oldest, strike, isOf, isName, isNamed, holds, sought, fullest, struck, written, storeNumber, withdrawNumber, Call, store, lookUp, withdraw, held, clear, answer, numberOf, after, empty}
 use Rattle.sessions.specs.History.{noted, further}
 use Rattle.sessions.specs.Keeps.{Sound}
-use Rattle.sessions.proofs.Rows.{zero-or, last-oldest, last-many, none-there, append-none, behind, behind-some, behind-none, many-strike, strike-many, within-strike, apart-oldest, apart-many, apart-behind}
+use Rattle.sessions.proofs.Books.{zero-or, last-oldest, last-many, none-there, append-none, behind, behind-some, behind-none, many-strike, strike-many, within-strike, apart-oldest, apart-many, apart-behind}
 use Rattle.sessions.proofs.Names.{name-axle, name-identifier, of-axle, of-other, named-of, named-other, named-apart}
 use Rattle.sessions.proofs.Sound.{struck-gone}
 use Rattle.sessions.proofs.Struck.{Struck, renewed, own, room, other, struck-is, fullest-six}
 
--- l is the latest store's session, n the stores since, of which k may stand behind it in the row
+-- l is the latest store's session, n the stores since, of which k may stand behind it in the book
 pub record Track (a : ℕ) (i : List ℕ) (b : Book) (l : Option Session) (k n : ℕ) : Type 0 where
   pub finds : (sought a i b ≡ none) ⊎ (sought a i b ≡ l)
   pub younger : 1 ≤ many (isNamed a i) b → behind (isNamed a i) (isOf a) b ≤ k
@@ -167,12 +167,12 @@ track-withdrawn a i b l n a′ i′ g t =
 -- any call: what it was answered is the book's answer
 pub track-call : (a : ℕ) (i : List ℕ) (b : Book) (l : Option Session) (n : ℕ) (c : Call) → Sound b → Track a i b l n n
     → Track a i (after b c) (noted a i c (numberOf (answer b c)) l) (further a i c (numberOf (answer b c)) n) (further a i c (numberOf (answer b c)) n)
-unfolding after answer noted further
-track-call a i b l n (store a′ i′ e s) g t =
+unfolding after answer noted further isNamed isOf
+track-call a i b l n (store s) g t =
     ⊎-elim
-    (λ (z : eqb (storeNumber a′ i′ s) 0 ≡ true). rw z (track-written a i b l n g t (session a′ i′ e s)))
-    (λ (z : eqb (storeNumber a′ i′ s) 0 ≡ false). rw z t)
-    (which (eqb (storeNumber a′ i′ s) 0))
+    (λ (z : eqb (storeNumber s) 0 ≡ true). rw z (track-written a i b l n g t s))
+    (λ (z : eqb (storeNumber s) 0 ≡ false). rw z t)
+    (which (eqb (storeNumber s) 0))
 track-call a i b l n (lookUp a′ i′ out) g t = t
 track-call a i b l n (withdraw a′ i′) g t =
     ⊎-elim

@@ -20,10 +20,6 @@ pub record Session : Type 0 where
   pub ems : Bool
   pub secret : List ℕ
 
--- the session that a store gives
-abbrev pub session : ℕ → List ℕ → Bool → List ℕ → Session
-session a i e s = record { axle = a; identifier = i; ems = e; secret = s }
-
 -- 'It is one row of sessions, each as its store gave it, in order of storing, the oldest first.'
 abbrev pub Book : Type 0
 Book = List Session
@@ -32,19 +28,19 @@ Book = List Session
 abbrev pub empty : Book
 empty = []
 
--- ---- the row, by a test of sessions
+-- ---- the book, by a test of sessions
 
--- how many of the row meet the test
+-- how many of the book meet the test
 unfoldable pub many : (Session → Bool) → Book → ℕ
 many p [] = 0
 many p (s ∷ b) = pick (p s) 1 0 + many p b
 
--- the oldest of the row that meets the test, or none
+-- the oldest of the book that meets the test, or none
 unfoldable pub oldest : (Session → Bool) → Book → Option Session
 oldest p [] = none
 oldest p (s ∷ b) = pick (p s) (some s) (oldest p b)
 
--- the row with that one struck out
+-- the book with that one struck out
 unfoldable pub strike : (Session → Bool) → Book → Book
 strike p [] = []
 strike p (s ∷ b) = pick (p s) b (s ∷ strike p b)
@@ -118,8 +114,8 @@ unfoldable pub tooShort : List ℕ → Option Session → Bool
 tooShort out none = false
 tooShort out (some s) = ltb (length out) (length (s .secret))
 
-unfoldable pub storeNumber : ℕ → List ℕ → List ℕ → ℕ
-storeNumber a i s = firstOf ((11, badName a i) ∷ (10, badSecret s) ∷ [])
+unfoldable pub storeNumber : Session → ℕ
+storeNumber s = firstOf ((11, badName (s .axle) (s .identifier)) ∷ (10, badSecret (s .secret)) ∷ [])
 
 unfoldable pub lookUpNumber : ℕ → List ℕ → List ℕ → Book → ℕ
 lookUpNumber a i out b = firstOf ((11, badName a i) ∷ (10, tooShort out (sought a i b)) ∷ [])
@@ -137,8 +133,8 @@ granted n x refused = pick (eqb n 0) x refused
 -- ---- the calls, with whatever arguments
 
 pub data Call : Type 0 where
-  -- axle, identifier, EMS or not, secret
-  store : ℕ → List ℕ → Bool → List ℕ → Call
+  -- the session as it was given
+  store : Session → Call
   -- axle, identifier, and what the lent output holds
   lookUp : ℕ → List ℕ → List ℕ → Call
   withdraw : ℕ → List ℕ → Call
@@ -168,9 +164,9 @@ abbrev pub handed : List ℕ → Option Session → List ℕ
 handed out none = out
 handed out (some s) = putList out (s .secret)
 
--- what a call is answered where the row is b
+-- what a call is answered where the book is b
 unfoldable pub answer : Book → Call → Answer
-answer b (store a i e s) = stored (storeNumber a i s)
+answer b (store s) = stored (storeNumber s)
 answer b (lookUp a i out) =
     let n = lookUpNumber a i out b in
     looked n (granted n (sought a i b) none) (granted n (handed out (sought a i b)) out)
@@ -178,9 +174,9 @@ answer b (withdraw a i) = let n = withdrawNumber a i in withdrew n (granted n (t
 answer b (held a) = let n = heldNumber a in counted n (granted n (holds a b) 0)
 answer b clear = cleared 0
 
--- the row after it: 'Refused, the row staying as it was'
+-- the book after it: 'Refused, the row staying as it was'
 unfoldable pub after : Book → Call → Book
-after b (store a i e s) = granted (storeNumber a i s) (written (session a i e s) b) b
+after b (store s) = granted (storeNumber s) (written s b) b
 after b (lookUp a i out) = b
 after b (withdraw a i) = granted (withdrawNumber a i) (strike (isNamed a i) b) b
 after b (held a) = b

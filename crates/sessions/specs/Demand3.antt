@@ -1,4 +1,5 @@
--- The tender's third condition, as one statement over every list of calls. The proof is proofs/Demand3.antt.
+-- The tender's third condition, as one statement over every list of calls. The proofs are proofs/Demand3.antt and, that
+-- there is a run for every list, proofs/Total.antt.
 -- Assumes nothing.
 use mathlib.Core.Path.{_≡_}
 use mathlib.Core.Bool.{Bool}
@@ -9,7 +10,7 @@ use Prim.Native.Nat.{ℕ, _≤_, _<_}
 use lib.ListN.{length, take}
 use Rattle.seqs.specs.Flag.{yes}
 use Rattle.seqs.specs.Pick.{pick}
-use Rattle.sessions.specs.Book.{Session, session, empty, holds, store, lookUp, withdraw, held, clear, stored, looked, withdrew, counted, cleared, answersFrom, bookFrom}
+use Rattle.sessions.specs.Book.{Session, Call, empty, holds, store, lookUp, withdraw, held, clear, stored, looked, withdrew, counted, cleared, answersFrom, bookFrom}
 use Rattle.sessions.specs.History.{Event, History, callsOf, answersOf, latest, since}
 use Rattle.sessions.specs.Keeps.{Keeps}
 use Rattle.sessions.specs.Promises.{Starts, Stores, LooksUp, Withdraws, CountsHeld, Clears}
@@ -22,13 +23,13 @@ use Rattle.sessions.specs.declared.calls.Cleared.{Cleared}
 
 -- the session that a look-up hands back: the axle and identifier asked for, the flag returned, the 48 bytes written
 abbrev pub foundBy : ℕ → List ℕ → Looked → List ℕ → Option Session
-foundBy a i r out = pick (yes (r .found)) (some (session a i (yes (r .ems)) (take 48 out))) none
+foundBy a i r out = pick (yes (r .found)) (some (record { axle = a; identifier = i; ems = yes (r .ems); secret = take 48 out })) none
 
 -- One call on a table: the table passed, the call with what it was answered, and the table afterwards. The premises are what
 -- the contracts of the five calls ensure, and nothing else.
 pub data Step : Table → Event → Table → Type 0 where
-  storing : {t : Table} {a : ℕ} {i : List ℕ} {e : Bool} {s : List ℕ} {r : Stored} → Stores t a i e s r
-      → Step t (record { call = store a i e s; answer = stored (r .refusal .number) }) (r .table)
+  storing : {t : Table} {s : Session} {r : Stored} → Stores t s r
+      → Step t (record { call = store s; answer = stored (r .refusal .number) }) (r .table)
   looking : {t : Table} {a : ℕ} {i out : List ℕ} {r : Looked} {out′ : List ℕ} → LooksUp t a i out r out′
       → Step t (record { call = lookUp a i out; answer = looked (r .refusal .number) (foundBy a i r out′) out′ }) t
   withdrawing : {t : Table} {a : ℕ} {i : List ℕ} {r : Withdrawn} → Withdraws t a i r
@@ -66,3 +67,13 @@ pub record Demand3 (h : History) (t : Table) : Type 0 where
 -- order.' Every list of calls, and not each by itself; every prefix of a list is one.
 abbrev pub Theorem : Type 0
 Theorem = (t t′ : Table) (h : History) → Starts t → Run t h t′ → Demand3 h t′
+
+-- It speaks of every list, and not only of those that happen to have a run: from a fresh table every list of calls has one.
+pub record Ran (t : Table) (cs : List Call) : Type 0 where
+  pub history : History
+  pub left : Table
+  pub calls : callsOf history ≡ cs
+  pub run : Run t history left
+
+abbrev pub Total : Type 0
+Total = (t : Table) (cs : List Call) → Starts t → Ran t cs

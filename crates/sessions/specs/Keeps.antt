@@ -7,7 +7,7 @@ use Prim.Native.Nat.{ℕ, _≤_}
 use lib.ListN.{length, take}
 use Rattle.seqs.specs.Flag.{yes}
 use Rattle.sessions.specs.Book.{Session, Book, many, isNamed, holds}
-use Rattle.sessions.specs.declared.row.Row.{Row}
+use Rattle.sessions.specs.declared.entry.Entry.{Entry}
 use Rattle.sessions.specs.declared.table.Table.{Table}
 
 -- a session that a store answered 0 can have given
@@ -18,7 +18,7 @@ pub record Formed (s : Session) : Type 0 where
   pub identifier-to : length (s .identifier) ≤ 32
   pub secret-is : length (s .secret) ≡ 48
 
--- each session of a row
+-- each session of a book
 abbrev pub Each : (Session → Type 0) → Book → Type 0
 Each P [] = Unit {0}
 Each P (s ∷ b) = P s × Each P b
@@ -33,15 +33,15 @@ pub record Sound (b : Book) : Type 0 where
   -- 'and all together never more than 32'
   pub thirty-two : length b ≤ 32
 
--- the session in a row of the table. `take` of more than there is is all, so that every struct value has a meaning.
-unfoldable pub sessionOf : Row → Session
+-- the session in an entry of the table. `take` of more than there is is all, so that every struct value has a meaning.
+unfoldable pub sessionOf : Entry → Session
 sessionOf r = record { axle = r .axle; identifier = take (r .size) (r .identifier); ems = yes (r .ems); secret = r .secret }
 
--- the rows that count, in their order
+-- the entries that count, in their order
 unfoldable pub bookOf : Table → Book
-bookOf t = map sessionOf (take (t .len) (t .rows))
+bookOf t = map sessionOf (take (t .len) (t .entries))
 
 -- the table t keeps the book b
 pub record Keeps (t : Table) (b : Book) : Type 0 where
-  pub row : bookOf t ≡ b
+  pub book : bookOf t ≡ b
   pub sound : Sound b

@@ -1,4 +1,4 @@
--- Where a session stands in the row: what the functions behind the calls say to each other. No promise of a call names a place.
+-- Where a session stands in the book: what the functions behind the calls say to each other. No promise of a call names a place.
 -- Assumes nothing.
 use mathlib.Core.Bool.{Bool}
 use mathlib.Core.List.{[], _∷_}

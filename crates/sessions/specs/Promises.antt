@@ -1,5 +1,5 @@
 -- What each call promises: of every struct value and whatever arguments, and more of a table that keeps a book.
--- t is the table passed, a the axle, i the identifier, and r what the call returns.
+-- t is the table passed, s a session, a the axle, i the identifier, and r what the call returns.
 -- Assumes nothing.
 use mathlib.Core.Path.{_≡_}
 use mathlib.Core.Bool.{Bool, false}
@@ -25,14 +25,14 @@ use Rattle.sessions.specs.declared.calls.Known.the-variants.{Nothing, Wi
 pub record Starts (r : Table) : Type 0 where
   pub keeps : Keeps r empty
 
--- ---- store, of EMS or not e and the secret s
+-- ---- store, of the session s
 
-pub record Stores (t : Table) (a : ℕ) (i : List ℕ) (e : Bool) (s : List ℕ) (r : Stored) : Type 0 where
+pub record Stores (t : Table) (s : Session) (r : Stored) : Type 0 where
   -- the number with its alert is the same whatever the table is
-  pub refusal : r .refusal ≡ refusalOf (storeNumber a i s)
+  pub refusal : r .refusal ≡ refusalOf (storeNumber s)
   -- refused: the very table that was passed
   pub refused : (r .refusal .number ≡ 0 → ⊥) → r .table ≡ t
-  pub keeps : (b : Book) → Keeps t b → Keeps (r .table) (after b (store a i e s))
+  pub keeps : (b : Book) → Keeps t b → Keeps (r .table) (after b (store s))
 
 -- ---- look-up, lent an output that holds out, and out′ afterwards
 
@@ -40,7 +40,7 @@ abbrev pub withEms : Option Session → Bool
 withEms none = false
 withEms (some s) = s .ems
 
--- what is returned where the row is b
+-- what is returned where the book is b
 unfoldable pub lookedOf : ℕ → List ℕ → List ℕ → Book → Looked
 lookedOf a i out b =
     let n = lookUpNumber a i out b in
@@ -54,44 +54,44 @@ lookedOf a i out b =
 unfoldable pub outputOf : ℕ → List ℕ → List ℕ → Book → List ℕ
 outputOf a i out b = granted (lookUpNumber a i out b) (handed out (sought a i b)) out
 
--- the answer is that of the row b
+-- the answer is that of the book b
 pub record LookedUp (a : ℕ) (i out : List ℕ) (b : Book) (r : Looked) (out′ : List ℕ) : Type 0 where
   pub returned : r ≡ lookedOf a i out b
   pub output : out′ ≡ outputOf a i out b
 
 pub record LooksUp (t : Table) (a : ℕ) (i out : List ℕ) (r : Looked) (out′ : List ℕ) : Type 0 where
-  -- whatever the table is, the answer is that of some row: one of document 01's numbers, and 11 for a bad name
-  pub row : Book
-  pub of-row : LookedUp a i out row r out′
+  -- whatever the table is, the answer is that of some book: one of document 01's numbers, and 11 for a bad name
+  pub book : Book
+  pub of-book : LookedUp a i out book r out′
   -- refused: nothing is written
   pub refused : (r .refusal .number ≡ 0 → ⊥) → out′ ≡ out
   pub answers : (b : Book) → Keeps t b → LookedUp a i out b r out′
 
 -- ---- withdrawal
 
--- whether one was there, where the row is b
+-- whether one was there, where the book is b
 unfoldable pub withdrawnOf : ℕ → List ℕ → Book → ℕ
 withdrawnOf a i b = bit (granted (withdrawNumber a i) (there (sought a i b)) false)
 
 pub record Withdraws (t : Table) (a : ℕ) (i : List ℕ) (r : Withdrawn) : Type 0 where
   pub refusal : r .refusal ≡ refusalOf (withdrawNumber a i)
-  -- whatever the table is, the flag is that of some row
-  pub row : Book
-  pub of-row : r .withdrawn ≡ withdrawnOf a i row
+  -- whatever the table is, the flag is that of some book
+  pub book : Book
+  pub of-book : r .withdrawn ≡ withdrawnOf a i book
   pub refused : (r .refusal .number ≡ 0 → ⊥) → r .table ≡ t
   pub answers : (b : Book) → Keeps t b → r .withdrawn ≡ withdrawnOf a i b
   pub keeps : (b : Book) → Keeps t b → Keeps (r .table) (after b (withdraw a i))
 
 -- ---- number held
 
--- what is returned where the row is b
+-- what is returned where the book is b
 unfoldable pub heldOf : ℕ → Book → Held
 heldOf a b = let n = heldNumber a in record { refusal = refusalOf n; count = granted n (holds a b) 0 }
 
 pub record CountsHeld (t : Table) (a : ℕ) (r : Held) : Type 0 where
-  -- whatever the table is, the answer is that of some row
-  pub row : Book
-  pub of-row : r ≡ heldOf a row
+  -- whatever the table is, the answer is that of some book
+  pub book : Book
+  pub of-book : r ≡ heldOf a book
   pub answers : (b : Book) → Keeps t b → r ≡ heldOf a b
 
 -- ---- clearing, of any table
@@ -107,7 +107,7 @@ knownOf none = Nothing
 knownOf (some s) = pick (s .ems) WithEms WithoutEms
 
 pub record Knows (t : Table) (a : ℕ) (i : List ℕ) (r : Known) : Type 0 where
-  -- whatever the table is, the answer is that of some row
-  pub row : Book
-  pub of-row : r ≡ knownOf (sought a i row)
+  -- whatever the table is, the answer is that of some book
+  pub book : Book
+  pub of-book : r ≡ knownOf (sought a i book)
   pub answers : (b : Book) → Keeps t b → r ≡ knownOf (sought a i b)

@@ -1,9 +1,10 @@
 // The calls on the table. A refusal leaves the table and what is lent as they were.
-use crate::row::Row;
+use crate::entry::Entry;
 use crate::table::Table;
 use refusal::Refusal;
 use refusal::refuse;
 ghost use mathlib.Core.Path.{_≡_};
+ghost use mathlib.Core.Bool.{Bool};
 ghost use Rattle.seqs.specs.Flag.{yes, bit};
 ghost use Rattle.sessions.specs.Book.{badAxle, badName, storeNumber};
 ghost use Rattle.sessions.specs.Promises.{Starts, Stores, LooksUp, Withdraws, CountsHeld, Clears, Knows};
@@ -76,7 +77,7 @@ fn bad_name(axle: u8, identifier: &[u8]) -> bool
 }
 
 fn store_number(axle: u8, identifier: &[u8], secret: &[u8]) -> u8
-    ensures { λ r. ⌜ r ≡ storeNumber axle (now (identifier .entry)) (now (secret .entry)) ⌝ }
+    ensures { λ r. ⌜ ((ems : Bool) → r ≡ storeNumber (record { axle = axle; identifier = now (identifier .entry); ems = ems; secret = now (secret .entry) })) ⌝ }
 {
     if bad_name(axle, identifier) {
         return 11;
@@ -103,7 +104,7 @@ impl Table {
     }
 
     pub fn store(self, axle: u8, identifier: &[u8], ems: bool, secret: &[u8]) -> Stored
-        ensures { λ r. ⌜ Stores self axle (now (identifier .entry)) ems (now (secret .entry)) r ⌝ }
+        ensures { λ r. ⌜ Stores self (record { axle = axle; identifier = now (identifier .entry); ems = ems; secret = now (secret .entry) }) r ⌝ }
     {
         let number = store_number(axle, identifier, secret);
         let refusal = refuse(number);
@@ -113,9 +114,9 @@ impl Table {
                 table: self,
             };
         }
-        let row = Row::of(axle, identifier, ems, secret);
+        let entry = Entry::of(axle, identifier, ems, secret);
         let at = self.victim(axle, identifier);
-        let table = self.renewed(at, row);
+        let table = self.renewed(at, entry);
         Stored { refusal, table }
     }
 
@@ -139,8 +140,8 @@ impl Table {
                 ems: 0,
             };
         }
-        let row = self.rows[at];
-        let number = octets::put(out, &row.secret);
+        let entry = self.entries[at];
+        let number = octets::put(out, &entry.secret);
         let refusal = refuse(number);
         if number != 0 {
             return Looked {
@@ -149,7 +150,7 @@ impl Table {
                 ems: 0,
             };
         }
-        let ems = flag(row.ems);
+        let ems = flag(entry.ems);
         Looked {
             refusal,
             found: 1,
@@ -219,8 +220,8 @@ impl Table {
         if size <= at {
             return Known::Nothing;
         }
-        let row = self.rows[at];
-        let ems = row.ems;
+        let entry = self.entries[at];
+        let ems = entry.ems;
         if ems == 0 {
             return Known::WithoutEms;
         }

@@ -1,5 +1,5 @@
-// The rows of the table, in order of storing, the oldest first.
-use crate::row::Row;
+// The entries of the table, in order of storing, the oldest first.
+use crate::entry::Entry;
 ghost use mathlib.Core.Path.{_≡_};
 ghost use mathlib.Core.List.{[], _∷_, _++_};
 ghost use Prim.Native.Nat.{_≤_, _<_};
@@ -9,10 +9,10 @@ ghost use Rattle.sessions.specs.Book.{empty, isOf, isNamed, holds, fulle
 ghost use Rattle.sessions.specs.Keeps.{sessionOf, bookOf};
 ghost use Rattle.sessions.specs.Places.{place};
 
-// The first `len` rows count.
+// The first `len` entries count.
 #[repr(C)]
 pub struct Table {
-    pub rows: [Row; 32],
+    pub entries: [Entry; 32],
     pub len: usize,
 }
 
@@ -21,12 +21,12 @@ impl Table {
         ensures { λ r. ⌜ bookOf r ≡ empty ⌝ }
     {
         Table {
-            rows: [Row::blank(); 32],
+            entries: [Entry::blank(); 32],
             len: 0,
         }
     }
 
-    // How many rows count.
+    // How many entries count.
     pub(crate) fn size(self) -> usize
         ensures { λ r. ⌜ (r ≡ length (bookOf self)) × (r ≤ 32) ⌝ }
     {
@@ -40,8 +40,8 @@ impl Table {
         let n = self.size();
         let mut i = 0;
         while i < n {
-            let row = self.rows[i];
-            if row.is_named(axle, identifier) {
+            let entry = self.entries[i];
+            if entry.is_named(axle, identifier) {
                 return i;
             }
             i += 1;
@@ -56,7 +56,7 @@ impl Table {
         let n = self.size();
         let mut i = 0;
         while i < n {
-            let holder = self.rows[i].axle;
+            let holder = self.entries[i].axle;
             if holder == axle {
                 return i;
             }
@@ -73,7 +73,7 @@ impl Table {
         let mut k = 0;
         let mut i = 0;
         while i < n {
-            if self.rows[i].axle == axle {
+            if self.entries[i].axle == axle {
                 k += 1;
             }
             i += 1;
@@ -120,7 +120,7 @@ impl Table {
         self.oldest(self.fullest())
     }
 
-    // Without the row at i, if there is one: those behind it move up, and the last is blanked.
+    // Without the entry at i, if there is one: those behind it move up, and the last is blanked.
     pub(crate) fn without(self, i: usize) -> Table
         ensures { λ r. ⌜ bookOf r ≡ cut i (bookOf self) ⌝ }
     {
@@ -131,17 +131,17 @@ impl Table {
         let mut t = self;
         let mut j = i;
         while j + 1 < n {
-            t.rows[j] = t.rows[j + 1];
+            t.entries[j] = t.entries[j + 1];
             j += 1;
         }
-        t.rows[j] = Row::blank();
+        t.entries[j] = Entry::blank();
         t.len = j;
         t
     }
 
-    // Without the row at i, if there is one, and with one row more, the last.
-    pub(crate) fn renewed(self, i: usize, row: Row) -> Table
-        ensures { λ r. ⌜ (i < 32 → i ≤ length (bookOf self) → bookOf r ≡ cut i (bookOf self) ++ (sessionOf row ∷ [])) ⌝ }
+    // Without the entry at i, if there is one, and with one entry more, the last.
+    pub(crate) fn renewed(self, i: usize, entry: Entry) -> Table
+        ensures { λ r. ⌜ (i < 32 → i ≤ length (bookOf self) → bookOf r ≡ cut i (bookOf self) ++ (sessionOf entry ∷ [])) ⌝ }
     {
         if 32 <= i {
             return self;
@@ -150,10 +150,10 @@ impl Table {
         let mut t = self;
         let mut j = i;
         while j + 1 < n {
-            t.rows[j] = t.rows[j + 1];
+            t.entries[j] = t.entries[j + 1];
             j += 1;
         }
-        t.rows[j] = row;
+        t.entries[j] = entry;
         t.len = j + 1;
         t
     }

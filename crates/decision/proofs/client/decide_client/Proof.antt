@@ -3,7 +3,8 @@
 use mathlib.Core.Path.{sym, _∙_, ap}
 use Rattle.hello.specs.Places.{serverRefusal}
 use Rattle.hello.proofs.Learnt.{server-learnt, server-fault}
-use Rattle.decision.specs.Steps.{lentOf, refusing}
+use Rattle.decision.specs.Connection.{refusing}
+use Rattle.decision.specs.Client.{lentOf}
 use Rattle.decision.proofs.Telling.{decide-offer, decide-fault, decide-told}
 use borrow.Author.Needs.{needs}
 use Rattle.decision.proofs.client.decide_client.Statement.{statement}

@@ -4,9 +4,9 @@ use mathlib.Core.Path.{refl, sym, _∙_, ap}
 use mathlib.Core.Bool.{Bool}
 use mathlib.Core.Option.{Option}
 use Rattle.seqs.specs.Pick.{pick}
-use Rattle.decision.specs.Connection.{Outcome}
-use Rattle.decision.specs.Client.{resumption, fullness}
-use Rattle.decision.specs.Steps.{riOf, toldOf, refusing, decidedIn, toldOutcome}
+use Rattle.decision.specs.Connection.{Outcome, refusing}
+use Rattle.decision.specs.Client.{resumption, fullness, clientOutcome}
+use Rattle.decision.specs.Steps.{riOf, toldOf, decidedIn}
 use Rattle.decision.proofs.Telling.{told-others, told-turn, told-done, flag-told}
 use borrow.Author.Needs.{needs}
 use Rattle.decision.proofs.client.judge_told.Statement.{statement}
@@ -50,7 +50,7 @@ decided-requires : tie.Need-decided-requires
 decided-requires c κs = search needs
 
 returns-3 : tie.Need-returns-3
-unfolding toldOutcome
+unfolding clientOutcome
 returns-3 c =
     let a = c .before .before .before .before .before .before .before .before .before .before .args in
     let t = (toldOf (a .identifier .now) (riOf (a .indicated) (a .indication .now)) (a .ems) (a .others)) in

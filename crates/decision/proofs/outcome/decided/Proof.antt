@@ -1,8 +1,8 @@
 -- An outcome, or 6.
 -- Assumes nothing.
 use mathlib.Core.Path.{sym, _∙_, ap}
-use Rattle.decision.specs.Connection.{refusedBy, decided}
-use Rattle.decision.specs.Steps.{outcomeIn, decidedIn, refusing}
+use Rattle.decision.specs.Connection.{refusing, refusedBy, decided}
+use Rattle.decision.specs.Steps.{outcomeIn, decidedIn}
 use Rattle.decision.specs.declared.outcome.Reached.{Reached}
 use borrow.Author.Needs.{needs}
 use Rattle.decision.proofs.outcome.decided.Statement.{statement}

@@ -3,7 +3,7 @@
 use mathlib.Core.Path.{sym, _∙_, ap}
 use Rattle.hello.specs.Places.{clientRefusal}
 use Rattle.hello.proofs.Learnt.{client-learnt, client-fault}
-use Rattle.decision.specs.Steps.{refusing}
+use Rattle.decision.specs.Connection.{refusing}
 use Rattle.decision.proofs.Serving.{server-axle, server-faulted, server-judged}
 use borrow.Author.Needs.{needs}
 use Rattle.decision.proofs.server.decide_server.Statement.{statement}
@@ -49,24 +49,18 @@ returns-2 c =
 session-of-requires : tie.Need-session-of-requires
 session-of-requires c κs = sym (c .before .read .given .1) ∙ c .before .before .before .read-client-hello .ensures
 
-is-known-requires : tie.Need-is-known-requires
-is-known-requires c κs = search needs
-
-is-with-ems-requires : tie.Need-is-with-ems-requires
-is-with-ems-requires c κs = search needs
-
 judge-client-hello-requires : tie.Need-judge-client-hello-requires
-judge-client-hello-requires c κs = sym (c .before .before .before .before .before .read .given .1) ∙ c .before .before .before .before .before .before .before .read-client-hello .ensures
+judge-client-hello-requires c κs = sym (c .before .before .before .read .given .1) ∙ c .before .before .before .before .before .read-client-hello .ensures
 
 same-length : tie.Need-same-length
 same-length c = search needs
 
 returns-3 : tie.Need-returns-3
 returns-3 c =
-    let a = c .before .before .before .before .before .before .before .before .before .before .before .before .before .before .before .args in
-    let w = sym (c .before .before .before .before .before .before .before .before .read .given .1) ∙ c .before .before .before .before .before .before .before .before .before .before .read-client-hello .ensures in
-    server-judged (a .table) (a .axle) _ (a .connection) (a .switches) (a .out .now) (c .before .before .before .before .before .before .session-of .result) (sym (c .before .before .before .before .before .before .before .before .before .before .before .before .is-bad .ensures) ∙ c .before .before .before .before .before .before .before .before .before .before .before .if1 .left)
-    (client-learnt (a .message .now) _ w .reading) (c .before .before .before .before .before .before .session-of .ensures) (c .before .before .before .before .is-with-ems .ensures _ (c .before .before .before .before .before .is-known .ensures)) (c .before .before .judge-client-hello .ensures)
+    let a = c .before .before .before .before .before .before .before .before .before .before .before .before .before .args in
+    let w = sym (c .before .before .before .before .before .before .read .given .1) ∙ c .before .before .before .before .before .before .before .before .read-client-hello .ensures in
+    server-judged (a .table) (a .axle) _ (a .connection) (a .switches) (a .out .now) (c .before .before .before .before .session-of .result) (sym (c .before .before .before .before .before .before .before .before .before .before .is-bad .ensures) ∙ c .before .before .before .before .before .before .before .before .before .if1 .left)
+    (client-learnt (a .message .now) _ w .reading) (c .before .before .before .before .session-of .ensures) (c .before .before .judge-client-hello .ensures)
 
 pub decide-server-spec : {M : Type 1} → statement M
 decide-server-spec =
@@ -83,8 +77,6 @@ decide-server-spec =
     refused-requires-2
     returns-2
     session-of-requires
-    is-known-requires
-    is-with-ems-requires
     judge-client-hello-requires
     same-length
     returns-3)

@@ -5,8 +5,8 @@ use mathlib.Core.Option.{Option}
 use native.Mathlib.Omega.{arith}
 use lib.ListN.{length, take}
 use lib.Seq.{length-take-le}
-use Rattle.decision.specs.Connection.{Outcome, forbidden}
-use Rattle.decision.specs.Steps.{riOf, sessionOf, askedOf, refusing, decidedIn}
+use Rattle.decision.specs.Connection.{Outcome, forbidden, refusing}
+use Rattle.decision.specs.Steps.{riOf, originalIn, askedOf, decidedIn}
 use Rattle.decision.proofs.Judging.{plain-turn, plain-six, plain-short, plain-done, flag-is, reply-is}
 use borrow.Author.Needs.{needs}
 use Rattle.decision.proofs.server.judge_asked.Statement.{statement}
@@ -24,7 +24,7 @@ refused-requires c κs = search needs
 returns : tie.Need-returns
 returns c =
     let a = c .before .before .before .before .before .before .args in
-    plain-turn (a .connection) (a .switches) (sessionOf (a .known) (a .session-ems)) (a .out .now) (askedOf (a .signal) (riOf (a .indicated) (a .indication .now)) (a .ems)) _ (sym (c .before .before .before .server-indication .ensures)) (c .before .before .if1 .taken) (c .refused .ensures ∙ ap refusing (c .before .refuse .ensures))
+    plain-turn (a .connection) (a .switches) (originalIn (a .session)) (a .out .now) (askedOf (a .signal) (riOf (a .indicated) (a .indication .now)) (a .ems)) _ (sym (c .before .before .before .server-indication .ensures)) (c .before .before .if1 .taken) (c .refused .ensures ∙ ap refusing (c .before .refuse .ensures))
 
 server-outcome-requires : tie.Need-server-outcome-requires
 server-outcome-requires c κs = search needs
@@ -41,7 +41,7 @@ refused-requires-2 c κs = search needs
 returns-2 : tie.Need-returns-2
 returns-2 c =
     let a = c .before .before .before .before .before .before .before .before .before .args in
-    plain-six (a .connection) (a .switches) (sessionOf (a .known) (a .session-ems)) (a .out .now) (askedOf (a .signal) (riOf (a .indicated) (a .indication .now)) (a .ems)) (sym (c .before .before .before .before .before .before .server-indication .ensures) ∙ c .before .before .before .before .before .if1 .left) (sym (ap forbidden (c .before .before .before .before .server-outcome .ensures)) ∙ sym (c .before .before .before .is-forbidden .ensures) ∙ c .before .before .if2 .taken) (c .refused2 .ensures ∙ ap refusing (c .before .refuse2 .ensures))
+    plain-six (a .connection) (a .switches) (originalIn (a .session)) (a .out .now) (askedOf (a .signal) (riOf (a .indicated) (a .indication .now)) (a .ems)) (sym (c .before .before .before .before .before .before .server-indication .ensures) ∙ c .before .before .before .before .before .if1 .left) (sym (ap forbidden (c .before .before .before .before .server-outcome .ensures)) ∙ sym (c .before .before .before .is-forbidden .ensures) ∙ c .before .before .if2 .taken) (c .refused2 .ensures ∙ ap refusing (c .before .refuse2 .ensures))
 
 flag-of-requires : tie.Need-flag-of-requires
 flag-of-requires c κs = search needs
@@ -84,11 +84,11 @@ returns-3 c =
     let l : length (r .result .bytes) ≡ 35 = search needs in
     let n : length (take (r .result .length) (r .result .bytes)) ≡ r .result .length = length-take-le (r .result .length) (r .result .bytes) (omega (arith, r .ensures .within)) in
     let f = c .before .before .before .before .before .before .before .before .before .before .before .flag-of .ensures in
-    let q = reply-is (a .connection) (a .switches) (sessionOf (a .known) (a .session-ems)) (a .signal) (a .indicated) (a .indication .now) (a .ems) f (c .before .before .before .before .before .before .before .before .before .before .uses-ems .ensures) o in
+    let q = reply-is (a .connection) (a .switches) (originalIn (a .session)) (a .signal) (a .indicated) (a .indication .now) (a .ems) f (c .before .before .before .before .before .before .before .before .before .before .uses-ems .ensures) o in
     let turn = sym (c .before .before .before .before .before .before .before .before .before .before .before .before .before .before .before .before .server-indication .ensures) ∙ c .before .before .before .before .before .before .before .before .before .before .before .before .before .before .before .if1 .left in
     let free = sym (ap forbidden o) ∙ sym (c .before .before .before .before .before .before .before .before .before .before .before .before .before .is-forbidden .ensures) ∙ c .before .before .before .before .before .before .before .before .before .before .before .before .if2 .left in
     let p = c .before .before .before .before .before .put .ensures in
-    plain-short (a .connection) (a .switches) (sessionOf (a .known) (a .session-ems)) (a .out .now) (askedOf (a .signal) (riOf (a .indicated) (a .indication .now)) (a .ems)) turn free _ (r .ensures .is ∙ q) _ (p .0) _ (p .1) (c .before .before .if3 .taken) (c .refused3 .ensures ∙ ap refusing (c .before .refuse3 .ensures))
+    plain-short (a .connection) (a .switches) (originalIn (a .session)) (a .out .now) (askedOf (a .signal) (riOf (a .indicated) (a .indication .now)) (a .ems)) turn free _ (r .ensures .is ∙ q) _ (p .0) _ (p .1) (c .before .before .if3 .taken) (c .refused3 .ensures ∙ ap refusing (c .before .refuse3 .ensures))
 
 decided-requires : tie.Need-decided-requires
 decided-requires c κs = search needs
@@ -104,12 +104,12 @@ returns-4 c =
     let l : length (r .result .bytes) ≡ 35 = search needs in
     let n : length (take (r .result .length) (r .result .bytes)) ≡ r .result .length = length-take-le (r .result .length) (r .result .bytes) (omega (arith, r .ensures .within)) in
     let f = c .before .before .before .before .before .before .before .before .before .before .flag-of .ensures in
-    let q = reply-is (a .connection) (a .switches) (sessionOf (a .known) (a .session-ems)) (a .signal) (a .indicated) (a .indication .now) (a .ems) f (c .before .before .before .before .before .before .before .before .before .uses-ems .ensures) o in
+    let q = reply-is (a .connection) (a .switches) (originalIn (a .session)) (a .signal) (a .indicated) (a .indication .now) (a .ems) f (c .before .before .before .before .before .before .before .before .before .uses-ems .ensures) o in
     let turn = sym (c .before .before .before .before .before .before .before .before .before .before .before .before .before .before .before .server-indication .ensures) ∙ c .before .before .before .before .before .before .before .before .before .before .before .before .before .before .if1 .left in
     let free = sym (ap forbidden o) ∙ sym (c .before .before .before .before .before .before .before .before .before .before .before .before .is-forbidden .ensures) ∙ c .before .before .before .before .before .before .before .before .before .before .before .if2 .left in
     let p = c .before .before .before .before .put .ensures in
-    plain-done (a .connection) (a .switches) (sessionOf (a .known) (a .session-ems)) (a .out .now) (askedOf (a .signal) (riOf (a .indicated) (a .indication .now)) (a .ems)) turn free _ (r .ensures .is ∙ q) _ (p .0) _ (p .1) (c .before .if3 .left)
-    (flag-is (a .connection) (a .switches) (sessionOf (a .known) (a .session-ems)) (a .signal) (a .indicated) (a .indication .now) (a .ems) f)
+    plain-done (a .connection) (a .switches) (originalIn (a .session)) (a .out .now) (askedOf (a .signal) (riOf (a .indicated) (a .indication .now)) (a .ems)) turn free _ (r .ensures .is ∙ q) _ (p .0) _ (p .1) (c .before .if3 .left)
+    (flag-is (a .connection) (a .switches) (originalIn (a .session)) (a .signal) (a .indicated) (a .indication .now) (a .ems) f)
     (r .ensures .size ∙ ap length q)
     (c .decided .ensures ∙ ap (λ (x : Option Outcome). decidedIn x (c .before .before .before .before .before .before .before .before .before .before .flag-of .result) (r .result .length)) o)
 

@@ -1,4 +1,4 @@
--- No row counts.
+-- No entry counts.
 -- Assumes nothing.
 use mathlib.Core.Path.{refl}
 use Rattle.sessions.proofs.Places.{book-none}

@@ -1,4 +1,4 @@
--- The rows of the axle are counted.
+-- The entries of the axle are counted.
 -- Assumes nothing.
 use mathlib.Core.Path.{_≡_, sym}
 use Prim.Native.Nat.{_+_, _-_, _≤_, _<_}

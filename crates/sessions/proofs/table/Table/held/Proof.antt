@@ -1,4 +1,4 @@
--- The count of the row, unless the axle is refused.
+-- The count of the book, unless the axle is refused.
 -- Assumes nothing.
 use mathlib.Core.Path.{sym, _∙_}
 use Rattle.sessions.proofs.Kept.{counts-11, counts-0}

@@ -1,4 +1,4 @@
--- The flag of the row at the place found.
+-- The flag of the entry at the place found.
 -- Assumes nothing.
 use native.Mathlib.Omega.{arith}
 use Rattle.sessions.proofs.Kept.{knows-nothing, knows-without, knows-with}
@@ -17,11 +17,11 @@ returns c =
     let a = c .before .before .before .before .args in
     knows-nothing (a .t1) (a .axle) (a .identifier .now) (omega arith)
 
-mul-row : tie.Need-mul-row
-mul-row c = search needs
+mul-entry : tie.Need-mul-entry
+mul-entry c = search needs
 
-element-copy-out-row : tie.Need-element-copy-out-row
-element-copy-out-row c = search needs
+element-copy-out-entry : tie.Need-element-copy-out-entry
+element-copy-out-entry c = search needs
 
 returns-2 : tie.Need-returns-2
 returns-2 c =
@@ -36,4 +36,4 @@ returns-3 c =
 pub known-spec : {M : Type 1} → statement M
 known-spec =
     tie.close
-    (tie.spec find-requires size-requires returns mul-row element-copy-out-row returns-2 returns-3)
+    (tie.spec find-requires size-requires returns mul-entry element-copy-out-entry returns-2 returns-3)

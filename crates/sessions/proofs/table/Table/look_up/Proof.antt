@@ -32,11 +32,11 @@ returns-2 c =
     let a = c .before .before .before .before .before .before .before .before .args in
     looks-none (a .t1) (a .axle) (a .identifier .now) (a .out .now) (c .refuse2 .result) (sym (c .before .before .before .before .before .bad-name .ensures) ∙ c .before .before .before .before .if1 .left) (omega arith) (c .refuse2 .ensures)
 
-mul-row : tie.Need-mul-row
-mul-row c = search needs
+mul-entry : tie.Need-mul-entry
+mul-entry c = search needs
 
-element-copy-out-row : tie.Need-element-copy-out-row
-element-copy-out-row c = search needs
+element-copy-out-entry : tie.Need-element-copy-out-entry
+element-copy-out-entry c = search needs
 
 put-requires : tie.Need-put-requires
 put-requires c κs = search needs
@@ -77,8 +77,8 @@ look-up-spec =
     size-requires
     refuse-requires-2
     returns-2
-    mul-row
-    element-copy-out-row
+    mul-entry
+    element-copy-out-entry
     put-requires
     refuse-requires-3
     same-length

@@ -1,4 +1,4 @@
--- The first row of the axle.
+-- The first entry of the axle.
 -- Assumes nothing.
 use mathlib.Core.Path.{_≡_, sym}
 use Prim.Native.Nat.{_+_, _-_, _≤_, _<_}

@@ -12,13 +12,13 @@ use Rattle.sessions.proofs.table.Table.size.Tie as tie
 returns : tie.Need-returns
 returns c =
     let s = c .before .before .args .self in
-    let l : length (s .rows) ≡ 32 = search (length-mapped, needs) in
+    let l : length (s .entries) ≡ 32 = search (length-mapped, needs) in
     (book-size s l .0 (c .if1 .taken), omega arith)
 
 returns-2 : tie.Need-returns-2
 returns-2 c =
     let s = c .before .before .args .self in
-    let l : length (s .rows) ≡ 32 = search (length-mapped, needs) in
+    let l : length (s .entries) ≡ 32 = search (length-mapped, needs) in
     (book-size s l .1 (c .if1 .left), omega arith)
 
 pub size-spec : {M : Type 1} → statement M

@@ -14,13 +14,13 @@ refuse-requires c κs = search needs
 returns : tie.Need-returns
 returns c =
     let a = c .before .before .before .before .before .args in
-    stores-refused (a .self) (a .axle) (a .identifier .now) (a .ems) (a .secret .now) (c .before .before .store-number .result) (c .before .refuse .result)
-    (c .before .before .store-number .ensures) (c .before .refuse .ensures) (c .if1 .taken)
+    stores-refused (a .self) (record { axle = a .axle; identifier = a .identifier .now; ems = a .ems; secret = a .secret .now }) (c .before .before .store-number .result) (c .before .refuse .result)
+    (c .before .before .store-number .ensures (a .ems)) (c .before .refuse .ensures) (c .if1 .taken)
 
 of-requires : tie.Need-of-requires
 of-requires c κs =
     let a = c .before .before .before .before .before .args in
-    let f = stored-formed (a .axle) (a .identifier .now) (a .ems) (a .secret .now) (c .before .before .store-number .result) (c .before .before .store-number .ensures) (c .if1 .left) in
+    let f = stored-formed (record { axle = a .axle; identifier = a .identifier .now; ems = a .ems; secret = a .secret .now }) (c .before .before .store-number .result) (c .before .before .store-number .ensures (a .ems)) (c .if1 .left) in
     (f .identifier-to, f .secret-is)
 
 victim-requires : tie.Need-victim-requires
@@ -32,8 +32,8 @@ renewed-requires c κs = search needs
 returns-2 : tie.Need-returns-2
 returns-2 c =
     let a = c .before .before .before .before .before .before .before .before .args in
-    stores-done (a .self) (a .axle) (a .identifier .now) (a .ems) (a .secret .now) (c .before .before .before .before .before .store-number .result) (c .before .before .before .before .refuse .result)
-    (c .before .before .before .before .before .store-number .ensures) (c .before .before .before .before .refuse .ensures) (c .before .victim .result) (c .before .before .of .result) (c .renewed .result)
+    stores-done (a .self) (record { axle = a .axle; identifier = a .identifier .now; ems = a .ems; secret = a .secret .now }) (c .before .before .before .before .before .store-number .result) (c .before .before .before .before .refuse .result)
+    (c .before .before .before .before .before .store-number .ensures (a .ems)) (c .before .before .before .before .refuse .ensures) (c .before .victim .result) (c .before .before .of .result) (c .renewed .result)
     (c .before .before .of .ensures) (c .before .victim .ensures .0) (c .before .victim .ensures .1) (c .renewed .ensures) (c .before .before .before .if1 .left)
 
 pub store-spec : {M : Type 1} → statement M

@@ -1,4 +1,4 @@
--- The row at the place found goes out.
+-- The entry at the place found goes out.
 -- Assumes nothing.
 use mathlib.Core.Path.{sym, _∙_}
 use native.Mathlib.Omega.{arith}

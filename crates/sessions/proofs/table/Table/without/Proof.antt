@@ -1,4 +1,4 @@
--- A row goes out, and those behind it move up.
+-- An entry goes out, and those behind it move up.
 -- Assumes nothing.
 use mathlib.Core.Path.{_≡_, sym}
 use Prim.Native.Nat.{_+_, _-_, _≤_}
@@ -6,14 +6,14 @@ use lib.ListN.{length}
 use Rattle.sessions.specs.Keeps.{bookOf}
 use Rattle.seqs.specs.Array.{length-mapped}
 use Rattle.seqs.specs.Cut.{cut-past, Shifted, shifted-none, shifted-more}
-use Rattle.sessions.proofs.Places.{noRow, book-cut}
+use Rattle.sessions.proofs.Places.{noEntry, book-cut}
 use native.Mathlib.Omega.{arith}
 use borrow.Author.Needs.{needs}
 use Rattle.sessions.proofs.table.Table.without.Statement.{statement}
 use Rattle.sessions.proofs.table.Table.without.Tie as tie
 
 abbrev Inv-loop : tie.InvT-loop
-Inv-loop i n t₀ j₀ t j = (j + 1 ≤ n) × Shifted (t₀ .rows) (t .rows) i j
+Inv-loop i n t₀ j₀ t j = (j + 1 ≤ n) × Shifted (t₀ .entries) (t .entries) i j
 
 abbrev μ-loop : tie.MeasureT-loop
 μ-loop i n t₀ j₀ t j = n - j
@@ -26,7 +26,7 @@ returns c = sym (cut-past (c .before .before .args .i) (bookOf (c .before .befor
 
 loop-holds : tie.Need-loop-holds Inv-loop μ-loop
 loop-holds c =
-    let r = c .before .before .args .self .rows in
+    let r = c .before .before .args .self .entries in
     let e : length r ≡ 32 = search (length-mapped, needs) in
     (omega arith, shifted-none r (c .before .before .args .i) (omega arith))
 
@@ -57,9 +57,9 @@ loop-less c = omega arith
 loop-again : tie.Need-loop-again Inv-loop μ-loop
 loop-again c =
     let l = c .before .before in
-    let r = l .before .before .before .args .self .rows in
+    let r = l .before .before .before .args .self .entries in
     let e : length r ≡ 32 = search (length-mapped, needs) in
-    (omega arith, shifted-more r (l .loop .t .rows) (l .before .before .before .args .i) (l .loop .j) noRow (l .loop .inv .1) (omega arith))
+    (omega arith, shifted-more r (l .loop .t .entries) (l .before .before .before .args .i) (l .loop .j) noEntry (l .loop .inv .1) (omega arith))
 
 blank-requires : tie.Need-blank-requires Inv-loop μ-loop
 blank-requires c κs = search needs
@@ -74,7 +74,7 @@ returns-2 : tie.Need-returns-2 Inv-loop μ-loop
 returns-2 c =
     let l = c .before .before in
     let s = l .before .before .before .args .self in
-    book-cut s (l .loop .t .rows) (l .before .before .before .args .i) (l .loop .j) _ (l .loop .inv .1) (omega arith)
+    book-cut s (l .loop .t .entries) (l .before .before .before .args .i) (l .loop .j) _ (l .loop .inv .1) (omega arith)
 
 pub without-spec : {M : Type 1} → statement M
 without-spec =

@@ -1,4 +1,4 @@
--- A row of sessions, by tests: how many meet one, the oldest that does, the row with it struck out, and a row with one written
+-- A book, by tests: how many meet one, the oldest that does, the book with it struck out, and a book with one written
 -- last. Of two tests: one that leaves the other's sessions alone, and one within the other.
 -- Assumes nothing.
 use mathlib.Core.Path.{_≡_, refl, sym, _∙_, ap}

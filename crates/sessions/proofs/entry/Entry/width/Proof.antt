@@ -4,8 +4,8 @@ use mathlib.Core.Path.{_≡_}
 use native.Mathlib.Omega.{arith}
 use lib.ListN.{length, length-take}
 use borrow.Author.Needs.{needs}
-use Rattle.sessions.proofs.row.Row.width.Statement.{statement}
-use Rattle.sessions.proofs.row.Row.width.Tie as tie
+use Rattle.sessions.proofs.entry.Entry.width.Statement.{statement}
+use Rattle.sessions.proofs.entry.Entry.width.Tie as tie
 
 cast-n : tie.Need-cast-n
 cast-n c = search needs

@@ -1,13 +1,13 @@
-// One row of the table: a session in plain bytes.
+// One entry of the table: a session in plain bytes.
 ghost use mathlib.Core.Path.{_≡_};
 ghost use Prim.Native.Nat.{_≤_};
 ghost use lib.ListN.{length, take};
-ghost use Rattle.sessions.specs.Book.{session, isNamed};
+ghost use Rattle.sessions.specs.Book.{isNamed};
 ghost use Rattle.sessions.specs.Keeps.{sessionOf};
 
 // The identifier is the first `size` bytes; 0 in `ems` is no, everything else yes.
 #[repr(C)]
-pub struct Row {
+pub struct Entry {
     pub axle: u8,
     pub ems: u8,
     pub size: u8,
@@ -15,10 +15,10 @@ pub struct Row {
     pub secret: [u8; 48],
 }
 
-impl Row {
-    // A row that no session is in.
-    pub(crate) fn blank() -> Row {
-        Row {
+impl Entry {
+    // An entry that no session is in.
+    pub(crate) fn blank() -> Entry {
+        Entry {
             axle: 0,
             ems: 0,
             size: 0,
@@ -27,17 +27,17 @@ impl Row {
         }
     }
 
-    // The session as a row.
-    pub(crate) fn of(axle: u8, identifier: &[u8], ems: bool, secret: &[u8]) -> Row
+    // The session as an entry.
+    pub(crate) fn of(axle: u8, identifier: &[u8], ems: bool, secret: &[u8]) -> Entry
         requires { ⌜ (length (now identifier) ≤ 32) × (length (now secret) ≡ 48) ⌝ }
-        ensures { λ r. ⌜ sessionOf r ≡ session axle (now (identifier .entry)) ems (now (secret .entry)) ⌝ }
+        ensures { λ r. ⌜ sessionOf r ≡ record { axle = axle; identifier = now (identifier .entry); ems = ems; secret = now (secret .entry) } ⌝ }
     {
         let mut name = [0u8; 32];
         octets::put(&mut name, identifier);
         let mut key = [0u8; 48];
         octets::put(&mut key, &secret[..48]);
         let flag = if ems { 1 } else { 0 };
-        Row {
+        Entry {
             axle,
             ems: flag,
             size: identifier.len() as u8,

@@ -6,8 +6,8 @@ use lib.ListN.{length}
 use lib.Seq.{length-take-le}
 use Rattle.sessions.proofs.Fields.{other-axle, that-axle}
 use borrow.Author.Needs.{needs}
-use Rattle.sessions.proofs.row.Row.is_named.Statement.{statement}
-use Rattle.sessions.proofs.row.Row.is_named.Tie as tie
+use Rattle.sessions.proofs.entry.Entry.is_named.Statement.{statement}
+use Rattle.sessions.proofs.entry.Entry.is_named.Tie as tie
 
 returns : tie.Need-returns
 returns c =

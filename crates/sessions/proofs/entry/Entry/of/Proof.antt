@@ -7,10 +7,10 @@ use lib.ListN.{take, replicate}
 use lib.Seq.{take-all, length-take-le}
 use Rattle.seqs.specs.Flag.{yes}
 use Rattle.octets.specs.Put.{putList}
-use Rattle.sessions.proofs.Fields.{row-is}
+use Rattle.sessions.proofs.Fields.{entry-is}
 use borrow.Author.Needs.{needs}
-use Rattle.sessions.proofs.row.Row.of.Statement.{statement}
-use Rattle.sessions.proofs.row.Row.of.Tie as tie
+use Rattle.sessions.proofs.entry.Entry.of.Statement.{statement}
+use Rattle.sessions.proofs.entry.Entry.of.Tie as tie
 
 slice-aggregate-put : tie.Need-slice-aggregate-put
 slice-aggregate-put c = search needs
@@ -37,7 +37,7 @@ returns c =
     let a = c .before .before .before .before .before .before .before .before .before .before .args in
     let s = a .secret .now in
     let whole : take 48 s ≡ s = take-all 48 s (omega (arith, c .before .before .before .before .before .before .before .before .before .before .pre)) in
-    row-is (a .axle) (c .if1 .flag) (a .ems) (a .identifier .now) s _ _ (replicate 32 0) (replicate 48 0)
+    entry-is (a .axle) (c .if1 .flag) (a .ems) (a .identifier .now) s _ _ (replicate 32 0) (replicate 48 0)
     (⊎-elim (λ w. ap yes (w .1) ∙ sym (w .0 .taken)) (λ w. ap yes (w .1) ∙ sym (w .0 .left)) (c .if1 .came))
     (c .before .before .before .before .before .before .put .ensures .1) (search needs) (c .before .before .put2 .ensures .1 ∙ ap (putList (replicate 48 0)) whole) (search needs)
 

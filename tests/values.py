@@ -1,0 +1,50 @@
+"""Struct values that no run of calls made: random bytes and, in half the draws, the fields that steer a call drawn near their
+bounds, so that it gets past its first test."""
+
+import ctypes as c
+
+from tests import face
+
+LIMIT = 1_048_576  # bytes that a hash takes
+
+
+def flag(r):
+    return r.choice((0, 1, 1, 2, 255))
+
+
+def length(r):
+    return r.choice((r.randrange(130), r.randrange(LIMIT), r.randrange(LIMIT - 130, LIMIT + 2)))
+
+
+# by struct and field
+STEERING = {
+    (face.Refusal, "number"): lambda r: r.choice((0, 0, 0, r.randrange(13))),
+    (face.Hash, "length"): length,
+    (face.Entry, "axle"): lambda r: r.randrange(8),
+    (face.Entry, "size"): lambda r: r.randrange(34),
+    (face.Table, "len"): lambda r: r.randrange(34),
+    (face.Log, "place"): lambda r: r.randrange(18),
+    (face.Log, "checked"): flag,
+    **{(face.Connection, name): flag for name in ("completed", "indication", "barred")},
+    **{(face.Switches, name): flag for name in ("indication_required", "legacy_full", "legacy_resumption")},
+    **{(face.Decision, name): flag for name in ("resumes", "ems", "indication", "bar")},
+}
+
+
+def steer(r, value):
+    for name, kind in value._fields_:
+        field = getattr(value, name)
+        if (type(value), name) in STEERING:
+            setattr(value, name, STEERING[type(value), name](r))
+        elif isinstance(field, c.Structure):
+            steer(r, field)
+        elif isinstance(field, c.Array) and issubclass(field._type_, c.Structure):
+            for part in field:
+                steer(r, part)
+
+
+def some(r, kind):
+    value = kind.from_buffer_copy(r.randbytes(c.sizeof(kind)))
+    if r.random() < 0.5:
+        steer(r, value)
+    return value
