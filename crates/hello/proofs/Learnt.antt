@@ -20,7 +20,7 @@ use Rattle.hello.specs.Extensions.{riKind}
 use Rattle.hello.specs.Fields.{Hello, Reading, fields, fault, isMalformed, helloNumber, readingOf, clientLayout, serverLayout, wrongClientVersion, wrongServerVersion, readClient, readServer}
 use Rattle.hello.specs.Places.{sizeOf, bytesPart, listPlace, extensionsAt, clientPlaces, serverPlaces, clientAnswer, serverAnswer}
 use Rattle.hello.specs.Cuts.{wellFormedAt, listAt}
-use Rattle.hello.specs.Learnt.{ExtensionsLearnt, ClientLearnt, ServerLearnt}
+use Rattle.hello.specs.Learnt.{ExtensionsLearnt, ClientBounds, ServerBounds, ClientLearnt, ServerLearnt}
 use Rattle.hello.specs.declared.client.ClientHello.{ClientHello}
 use Rattle.hello.specs.declared.client.ClientRead.the-variants as client
 use Rattle.hello.specs.declared.server.ServerHello.{ServerHello}
@@ -113,6 +113,14 @@ server-fields m h f e q =
         types-differ = r .differ;
       };
     }
+
+pub client-bounds : (m : List ℕ) (f : Hello) → readClient m ≡ fields f → ClientBounds m f
+unfolding client-fields
+client-bounds m f e = client-fields m (clientPlaces f) f e refl .bounds
+
+pub server-bounds : (m : List ℕ) (f : Hello) → readServer m ≡ fields f → ServerBounds m f
+unfolding server-fields
+server-bounds m f e = server-fields m (serverPlaces f) f e refl .bounds
 
 -- from the answer of the reader
 pub client-learnt : (m : List ℕ) (h : ClientHello) → client.Read h ≡ clientAnswer (readClient m) → ClientLearnt m h

@@ -9,5 +9,4 @@ pub mod Found
 pub mod Laid
 pub mod ListBytes
 pub mod Learnt
-pub mod Cases
 pub mod Reread
