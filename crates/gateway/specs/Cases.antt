@@ -2,7 +2,7 @@
 -- definitions that the contracts cite. It is proved by computation in proofs/Cases.antt.
 -- Assumes nothing.
 use mathlib.Core.Path.{_≡_}
-use mathlib.Core.Bool.{true, false}
+use mathlib.Core.Bool.{Bool, true, false}
 use mathlib.Core.List.{List, [], _∷_, _++_}
 use mathlib.Core.Option.{none, some}
 use Prim.Native.Nat.{ℕ, zero, suc, _+_}
@@ -18,8 +18,9 @@ use Rattle.decision.specs.Server.{serverNumber, serverDecision}
 use Rattle.decision.specs.declared.connection.Connection.{Connection}
 use Rattle.decision.specs.declared.connection.Switches.{Switches}
 use Rattle.log.specs.History.{History, hashed}
-use Rattle.log.specs.History.History.{fresh}
+use Rattle.log.specs.History.History.{fresh, checked}
 use Rattle.log.specs.Calls.{acceptNumber, afterAccept}
+use Rattle.log.specs.Check.{checkNumber, expectedNumber}
 
 -- ---- readings
 
@@ -94,6 +95,16 @@ unfoldable pub numbersFrom : History → List (List ℕ) → List ℕ
 numbersFrom h [] = []
 numbersFrom h (m ∷ ms) = acceptNumber h m false ∷ numbersFrom (afterAccept h m false) ms
 
+-- 1, 2, told with the second whether it resumes
+abbrev pub greeted : Bool → History
+greeted resumes = afterAccept (afterAccept fresh (message 1 []) false) (message 2 []) resumes
+
+abbrev pub finished : List ℕ
+finished = message 20 (replicate 12 0)
+
+abbrev pub secret : List ℕ
+secret = replicate 48 0
+
 -- ---- the table
 
 -- n stores of an axle, each under an identifier of its own: from, from + 1, ..
@@ -129,7 +140,13 @@ pub record Cases : Type 0 where
   -- 'later handshake, flag clear: 9.'
   pub flag-clear : serverNumber 1 (readClient emsHello) none (connection 1 0) (legacy 1) room ≡ 9
   -- 'log 1, 2, 20 not told it resumes: 7 at the third.'
-  pub early-finished : numbersFrom fresh (message 1 [] ∷ message 2 [] ∷ message 20 (replicate 12 0) ∷ []) ≡ 0 ∷ 0 ∷ 7 ∷ []
+  pub early-finished : numbersFrom fresh (message 1 [] ∷ message 2 [] ∷ finished ∷ []) ≡ 0 ∷ 0 ∷ 7 ∷ []
+  -- It is out of turn, and not only unchecked: 7 even after a check, and 7 to check or to ask for. Where it was told, one is due.
+  pub early-checked : acceptNumber (checked (greeted false) finished) finished false ≡ 7
+  pub early-check : checkNumber (greeted false) secret finished ≡ 7
+  pub early-expected : expectedNumber (greeted false) secret ≡ 7
+  pub told-checked : acceptNumber (checked (greeted true) finished) finished false ≡ 0
+  pub told-expected : expectedNumber (greeted true) secret ≡ 0
   -- 'type 0 first leaves the hash empty.'
   pub type-0-first : numbersFrom fresh (message 0 [] ∷ []) ≡ 0 ∷ []
   pub type-0-hashed : hashed (afterAccept fresh (message 0 []) false) ≡ []

@@ -17,7 +17,7 @@ use Rattle.decision.specs.Server.{sessionIn, serverDecision}
 use Rattle.decision.specs.declared.connection.Switches.{Switches}
 use Rattle.decision.specs.declared.connection.Decision.{Decision}
 use Rattle.listing.specs.Contents.{goodCase, bodiesOf}
-use Rattle.listing.specs.Texts.{header, refused, row}
+use Rattle.listing.specs.Texts.{header, refused, printed}
 use Rattle.listing.specs.declared.line.Column.{Column}
 use Rattle.listing.specs.declared.line.Column.the-variants.{Nothing, Number}
 
@@ -52,7 +52,7 @@ logAfter h m = afterAccept h m false
 
 -- the line of message i
 unfoldable pub lineFor : ℕ → History → List ℕ → List ℕ
-lineFor i h m = row i (kindColumn m) (logNumber h m) (helloColumn (logNumber h m) m)
+lineFor i h m = printed i (kindColumn m) (logNumber h m) (helloColumn (logNumber h m) m)
 
 -- the lines of the messages from number i on
 unfoldable pub lines : ℕ → History → List (List ℕ) → List ℕ

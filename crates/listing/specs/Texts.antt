@@ -22,8 +22,8 @@ columnOf Nothing = ascii "-"
 columnOf (Number n) = decimal n
 
 -- a line: the message's number, its type, the log's number and the decision's
-unfoldable pub row : ℕ → Column → ℕ → Column → List ℕ
-row i kind log hello =
+unfoldable pub printed : ℕ → Column → ℕ → Column → List ℕ
+printed i kind log hello =
     decimal i ++ ascii " " ++ columnOf kind ++ ascii " " ++ decimal log ++ ascii " " ++ columnOf hello ++ ascii "\n"
 
 -- what a line holds

@@ -3,7 +3,7 @@ ghost use mathlib.Core.Path.{_≡_};
 ghost use mathlib.Core.List.{[], _∷_, _++_};
 ghost use Prim.Native.Nat.{_+_, _≤_, _<_};
 ghost use Rattle.listing.specs.Digits.{decimal};
-ghost use Rattle.listing.specs.Texts.{columnOf, row, lineOf};
+ghost use Rattle.listing.specs.Texts.{columnOf, printed, lineOf};
 
 pub(crate) struct Line {
     pub bytes: [u8; 16],
@@ -65,7 +65,7 @@ impl Line {
 
     // Four columns with a space between them, and the end of the line.
     pub(crate) fn of(number: u8, kind: Column, log: u8, hello: Column) -> Line
-        ensures { λ r. ⌜ (lineOf r ≡ row number kind log hello) × (r .length ≤ 16) ⌝ }
+        ensures { λ r. ⌜ (lineOf r ≡ printed number kind log hello) × (r .length ≤ 16) ⌝ }
     {
         let first = Line::empty().number(number).byte(b' ');
         let second = first.column(kind).byte(b' ');

@@ -1,7 +1,7 @@
 -- Accepting a message: its number at each way out, what a log remembers, and what is promised of the log that is handed back.
 -- Assumes nothing.
 use mathlib.Core.Path.{_≡_, refl, sym, _∙_, ap}
-use mathlib.Core.Bool.{Bool, true, false, not, _&&_, _||_, false≢true}
+use mathlib.Core.Bool.{Bool, true, false, not, _&&_, false≢true}
 use mathlib.Core.List.{List, _++_}
 use mathlib.Core.Option.{none, some}
 use Prim.Native.Nat.{ℕ, _+_, _≤_}
@@ -20,18 +20,19 @@ use Rattle.sha256.specs.Running.{Running, taken, most}
 use Rattle.sha256.specs.Promise.{Absorbs, absorbNumber}
 use Rattle.sha256.specs.Laws.{number-over, number-within, taken-length}
 use Rattle.sha256.specs.declared.running.Absorbed.{Absorbed}
-use Rattle.log.specs.Order.{number, placeAt, turns, look, somewhere}
-use Rattle.log.specs.History.{History, placeOf, hashed, remembered}
+use Rattle.log.specs.Order.{Place, turns, look, isDue}
+use Rattle.log.specs.History.{History, placeOf, hashed, remembered, isFrom}
 use Rattle.log.specs.History.History.{accepted}
+use Rattle.log.specs.History.Side.{client, server}
 use Rattle.log.specs.Calls.{misshapen, shapeNumber, outOfTurn, isMessage, unchecked, acceptNumber, afterAccept}
-use Rattle.log.specs.Stands.{Stands, memory, finishedWith}
+use Rattle.log.specs.Stands.{Stands, Placed, number, memory, finishedWith}
 use Rattle.refusal.specs.Listed.{Listed, listed, numbered}
 use Rattle.log.specs.Promise.{Accepts}
 use Rattle.log.specs.Steps.{Judges, InTurn, Takes, forgetting}
 use Rattle.log.specs.declared.shape.Judged.{Judged}
 use Rattle.log.specs.declared.state.Log.{Log}
 use Rattle.log.specs.declared.answers.Accepted.{Accepted}
-use Rattle.log.proofs.Turns.{placeAt-number, somewhere-number, number-most}
+use Rattle.log.proofs.Turns.{due-number}
 use Rattle.log.proofs.Messages.{Fine, fine, shape-most}
 use Rattle.log.proofs.Standing.{far, forgetting-stands, taking-stands}
 
@@ -65,8 +66,8 @@ module _ (log : Log) (m : List ℕ) (k p : ℕ) (a : Absorbed) (ab : Absorbs (lo
 
   pub done-takes : (session value₁ value₂ : List ℕ) → a .refusal .number ≡ 0
       → ((n : List ℕ) → Running (a .hash) n → session ≡ pick (eqb k 16) (sha256 n) (log .session))
-      → value₁ ≡ pick (eqb k 20 && not (eqb (log .place) 12 || eqb (log .place) 14)) (log .value) (log .client)
-      → value₂ ≡ pick (eqb k 20 && (eqb (log .place) 12 || eqb (log .place) 14)) (log .value) (log .server)
+      → ((h : History) → Placed (log .place) h → value₁ ≡ pick (eqb k 20 && isFrom client h) (log .value) (log .client))
+      → ((h : History) → Placed (log .place) h → value₂ ≡ pick (eqb k 20 && isFrom server h) (log .value) (log .server))
       → Takes log m k p
       (record {
         refusal = a .refusal;
@@ -80,7 +81,7 @@ module _ (log : Log) (m : List ℕ) (k p : ℕ) (a : Absorbed) (ab : Absorbs (lo
         stands =
             λ h resumes s t.
             let r = ab .runs (hashed h) (s .hash) (taken-room h resumes s t) in
-            taking-stands log h m resumes k p s t (a .hash) session value₁ value₂ r (e (hashed h ++ m) r) f g;
+            taking-stands log h m resumes k p s t (a .hash) session value₁ value₂ r (e (hashed h ++ m) r) (f h (s .place)) (g h (s .place));
       }
 
 -- what a log remembers, by what it holds
@@ -118,14 +119,14 @@ module _ (m : List ℕ) (resumes : Bool) (h : History) where
     accept-request k = by-turn false false (rw k) (rw k)
 
     module _ (k : kindOf m ≡ 0 → ⊥) where
-      turn : (b : Bool) → somewhere (look (kindOf m) (turns resumes (placeOf h))) ≡ b → outOfTurn h m resumes ≡ not b
+      turn : (b : Bool) → isDue (kindOf m) (turns resumes (placeOf h)) ≡ b → outOfTurn h m resumes ≡ not b
       unfolding outOfTurn
       turn b e = rw (ne-eqb (kindOf m) 0 k, e)
 
-      pub accept-out : somewhere (look (kindOf m) (turns resumes (placeOf h))) ≡ false → acceptNumber h m resumes ≡ 7
+      pub accept-out : isDue (kindOf m) (turns resumes (placeOf h)) ≡ false → acceptNumber h m resumes ≡ 7
       accept-out e = by-turn true (unchecked h m) (turn false e) refl
 
-      module _ (e : somewhere (look (kindOf m) (turns resumes (placeOf h))) ≡ true) where
+      module _ (e : isDue (kindOf m) (turns resumes (placeOf h)) ≡ true) where
         pub accept-other : (kindOf m ≡ 20 → ⊥) → acceptNumber h m resumes ≡ 0
         unfolding unchecked
         accept-other g = by-turn false false (turn true e) (rw (ne-eqb (kindOf m) 20 g))
@@ -182,15 +183,15 @@ module _ (log : Log) (m : List ℕ) (resumes : Bool) where
           done-accepts r (listed 0 (r .refusal) (e .0) (omega arith)) (λ n. absurd (n (numbered 0 (r .refusal) (e .0))))
           (λ h s. (accept-request m resumes h well (sym kind ∙ k), e .0, rw (e .1) (forgetting-stands log h m resumes s (sym kind ∙ k))))
 
-      module _ (k : j .kind ≡ 0 → ⊥) (q : ℕ) (e : q ≡ number (look (j .kind) (turns resumes (placeAt (log .place))))) where
+      module _ (k : j .kind ≡ 0 → ⊥) (q : ℕ) (e : (p : Place) → log .place ≡ number p → q ≡ number (look (j .kind) (turns resumes p))) where
         hashed-kind : kindOf m ≡ 0 → ⊥
         hashed-kind x = k (kind ∙ x)
 
         leads-to : (h : History) → Stands log h → q ≡ number (look (kindOf m) (turns resumes (placeOf h)))
-        leads-to h s = rw (← kind, ← placeAt-number (placeOf h), ← s .place) e
+        leads-to h s = rw (← kind) (e (placeOf h) (s .place .number))
 
-        there : (h : History) → Stands log h → not (eqb q 17) ≡ somewhere (look (kindOf m) (turns resumes (placeOf h)))
-        there h s = rw (leads-to h s) (somewhere-number (look (kindOf m) (turns resumes (placeOf h))))
+        there : (h : History) → Stands log h → not (eqb q 17) ≡ isDue (kindOf m) (turns resumes (placeOf h))
+        there h s = due-number resumes (placeOf h) (kindOf m) q (leads-to h s)
 
         pub out-accepts : (r : Accepted) → q ≡ 17 → (r .refusal ≡ refusalOf 7) × (r .log ≡ log) → Accepts log m resumes r
         out-accepts r n f =
@@ -198,7 +199,7 @@ module _ (log : Log) (m : List ℕ) (resumes : Bool) where
             (λ h s. accept-out m resumes h well hashed-kind (sym (there h s) ∙ (rw n)))
 
         module _ (n : q ≡ 17 → ⊥) where
-          turns-up : (h : History) → Stands log h → somewhere (look (kindOf m) (turns resumes (placeOf h))) ≡ true
+          turns-up : (h : History) → Stands log h → isDue (kindOf m) (turns resumes (placeOf h)) ≡ true
           turns-up h s = sym (there h s) ∙ (rw (ne-eqb q 17 n))
 
           in-turn : (h : History) → Stands log h → (j .kind ≡ 20 → log .value ≡ bodyOf m) → InTurn log h m resumes (j .kind) q
@@ -207,7 +208,7 @@ module _ (log : Log) (m : List ℕ) (resumes : Bool) where
                 kind = kind;
                 hashed = k;
                 place = leads-to h s;
-                below = omega (arith, leads-to h s, number-most (look (kindOf m) (turns resumes (placeOf h))));
+                due = turns-up h s;
                 size = well .longest;
                 value = v;
               }

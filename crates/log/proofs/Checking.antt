@@ -1,7 +1,7 @@
 -- Checking a Finished, and what is expected of it: the number at each way out, and what is promised there.
 -- Assumes nothing.
 use mathlib.Core.Path.{_≡_, refl, sym, _∙_, ap}
-use mathlib.Core.Bool.{Bool, true, false, not, _&&_, _||_}
+use mathlib.Core.Bool.{Bool, true, false, not, _&&_}
 use mathlib.Core.List.{List}
 use Prim.Native.Nat.{ℕ, _≤_}
 use native.Mathlib.Omega.{arith}
@@ -19,32 +19,34 @@ use Rattle.message.specs.Frame.{kindOf, bodyOf, overlong, misstated}
 use Rattle.sha256.specs.Sha256.{sha256}
 use Rattle.prf.specs.Promise.{verifyNumber, verifiedOf}
 use Rattle.prf.specs.declared.secrets.Verified.{Verified}
-use Rattle.log.specs.Order.{number, placeAt, finishedDue, fromServer}
-use Rattle.log.specs.History.{History, placeOf, hashed}
+use Rattle.log.specs.Order.{Place, finishedDue}
+use Rattle.log.specs.History.{History, placeOf, hashed, fromServer}
 use Rattle.log.specs.Calls.{misshapen, shapeNumber}
 use Rattle.log.specs.Check.{expectedValue, expectedNumber, expectedOf, checkNumber, afterCheck}
-use Rattle.log.specs.Stands.{Stands, finishedWith}
+use Rattle.log.specs.Stands.{Stands, number, finishedWith}
 use Rattle.log.specs.Promise.{Checks, Expects}
 use Rattle.log.specs.Steps.{Judges, remembering}
 use Rattle.log.specs.declared.shape.Judged.{Judged}
 use Rattle.log.specs.declared.state.Log.{Log}
 use Rattle.log.specs.declared.answers.Checked.{Checked}
 use Rattle.log.specs.declared.answers.Expected.{Expected}
-use Rattle.log.proofs.Turns.{placeAt-number}
 use Rattle.log.proofs.Messages.{Fine, fine, shape-most}
 use Rattle.log.proofs.Standing.{remembering-stands}
 
 -- verify_data of the Finished that is due, from what the calls answer
-pub expected-by : (log : Log) (h : History) (secret hash : List ℕ) (b : Bool) (r : Verified) → Stands log h → length secret ≡ 48
-    → r ≡ verifiedOf secret b hash → b ≡ (eqb (log .place) 12 || eqb (log .place) 14) → hash ≡ sha256 (hashed h)
+pub expected-by : (h : History) (secret hash : List ℕ) (b : Bool) (r : Verified) → length secret ≡ 48
+    → r ≡ verifiedOf secret b hash → b ≡ fromServer h → hash ≡ sha256 (hashed h)
     → r .value ≡ expectedValue h secret
-unfolding expectedValue fromServer number verifiedOf verifyNumber firstOf
-expected-by log h secret hash b r s n e f g =
-    ap (λ (x : Verified). x .value) e ∙ (rw (eq-eqb (length secret) 48 n, ← s .place, ← f, ← g))
+unfolding expectedValue verifiedOf verifyNumber firstOf
+expected-by h secret hash b r n e f g =
+    ap (λ (x : Verified). x .value) e ∙ (rw (eq-eqb (length secret) 48 n, ← f, ← g))
 
 -- is a Finished due, as the log has it
-due-by : (log : Log) (h : History) (b : Bool) → Stands log h → b ≡ finishedDue (placeAt (log .place)) → finishedDue (placeOf h) ≡ b
-due-by log h b s e = rw (← placeAt-number (placeOf h), ← s .place) (sym e)
+abbrev pub Due : Log → Bool → Type 0
+Due log b = (p : Place) → log .place ≡ number p → b ≡ finishedDue p
+
+due-by : (log : Log) (h : History) (b : Bool) → Stands log h → Due log b → finishedDue (placeOf h) ≡ b
+due-by log h b s e = sym (e (placeOf h) (s .place .number))
 
 -- the ways out of the call for what is expected
 module _ (log : Log) (secret : List ℕ) where
@@ -62,7 +64,7 @@ module _ (log : Log) (secret : List ℕ) where
   unfolding expectedNumber firstOf
   secret-expects r n e = refused-expects 10 r (omega arith) (λ x. omega arith) e (λ h s. rw (ne-eqb (length secret) 48 n))
 
-  module _ (n : length secret ≡ 48) (b : Bool) (d : b ≡ finishedDue (placeAt (log .place))) where
+  module _ (n : length secret ≡ 48) (b : Bool) (d : Due log b) where
     pub due-expects : (r : Expected) → not b ≡ true → (r .refusal ≡ refusalOf 7) × (r .value ≡ replicate 12 0) → Expects log secret r
     unfolding expectedNumber firstOf
     due-expects r x e =
@@ -136,7 +138,7 @@ module _ (log : Log) (secret m : List ℕ) where
           refused-checks 7 r (omega arith) (λ x. omega arith) e
           (λ h s. check-due secret m h n well false (same (bodyOf m) (expectedValue h secret)) (rw (← kind, ne-eqb (j .kind) 20 k)) refl)
 
-      module _ (k : j .kind ≡ 20) (b : Bool) (d : b ≡ finishedDue (placeAt (log .place))) where
+      module _ (k : j .kind ≡ 20) (b : Bool) (d : Due log b) where
         finished : eqb (kindOf m) 20 ≡ true
         finished = eq-eqb (kindOf m) 20 (sym kind ∙ k)
 

@@ -1,32 +1,33 @@
--- The table of turns by the places' numbers, as the code has it, and that the numbers rise along it.
+-- The places and the table of turns, by computation: a test that every place passes, and what each turn does. And the places' numbers, as
+-- the code has them.
 -- Assumes nothing.
-use mathlib.Core.Path.{_≡_, refl, sym, _∙_, ap}
-use mathlib.Core.Bool.{Bool, true, false, not, _&&_, false≢true}
+use mathlib.Core.Path.{_≡_, refl, sym, _∙_, ap, subst}
+use mathlib.Core.Bool.{Bool, true, false, not, _&&_, _||_, false≢true}
 use mathlib.Core.List.{List, [], _∷_}
-use Prim.Native.Nat.{ℕ, zero, suc, _≤_, _<_, zero-le}
+use Prim.Native.Nat.{ℕ, zero, suc, _<_}
 use native.Mathlib.Omega.{arith}
-use lib.Dec.{eqb, ltb}
-use lib.ListN.{List·getD-eq-default}
-use borrow.Author.Tests.{eqb-true, eqb-false, ltb-true}
+use lib.Dec.{eqb, leb, ltb}
+use lib.ListN.{getD}
+use borrow.Author.Tests.{eqb-true, ltb-true, ne-eqb}
 use Rattle.seqs.specs.Pick.{pick}
-use Rattle.log.specs.Order.{Place, number, places, placeAt, look, turns, somewhere, finishedDue}
+use Rattle.seqs.specs.Cases.{by-test, and-left, and-right, or-left, or-right}
+use Rattle.log.specs.Order.{Place, look, turns, isDue}
 use Rattle.log.specs.Order.Place.{beginning, clientHello, serverHello, serverCertificate, serverKeyExchange, certificateRequest, helloDone, helloDoneRequested, clientCertificate, keyExchange, keyExchangeCertified, certificateVerify, clientFirst, completeFull, resumingHello, serverFirst, completeResumed, nowhere}
+use Rattle.log.specs.Stands.{number}
 
--- where a type leads in a row, by numbers
-unfoldable pub leads : ℕ → List (ℕ × Place) → ℕ
-leads kind [] = 17
-leads kind ((due, place) ∷ rest) = pick (eqb kind due) (number place) (leads kind rest)
+-- ---- every place
 
-number-pick : (b : Bool) (p q : Place) → number (pick b p q) ≡ pick b (number p) (number q)
-number-pick true p q = refl
-number-pick false p q = refl
+-- the places, from number 0 on
+abbrev pub places : List Place
+places =
+    beginning ∷ clientHello ∷ serverHello ∷ serverCertificate ∷ serverKeyExchange ∷ certificateRequest ∷ helloDone ∷ helloDoneRequested
+    ∷ clientCertificate ∷ keyExchange ∷ keyExchangeCertified ∷ certificateVerify ∷ clientFirst ∷ completeFull ∷ resumingHello ∷ serverFirst
+    ∷ completeResumed ∷ []
 
-number-look : (kind : ℕ) (row : List (ℕ × Place)) → number (look kind row) ≡ leads kind row
-unfolding look leads number
-number-look kind [] = refl
-number-look kind ((due, place) ∷ rest) = number-pick (eqb kind due) place (look kind rest) ∙ ap (λ (n : ℕ). pick (eqb kind due) (number place) n) (number-look kind rest)
+pub placeAt : ℕ → Place
+placeAt n = getD places n nowhere
 
-pub placeAt-number : (p : Place) → placeAt (number p) ≡ p
+placeAt-number : (p : Place) → placeAt (number p) ≡ p
 unfolding placeAt number
 placeAt-number beginning = refl
 placeAt-number clientHello = refl
@@ -47,115 +48,182 @@ placeAt-number serverFirst = refl
 placeAt-number completeResumed = refl
 placeAt-number nowhere = refl
 
--- an arm of the code: the row of the place whose number it is
-pub arm : (resumes : Bool) (n kind r : ℕ) (p : Place) → n ≡ number p → r ≡ leads kind (turns resumes p)
-    → r ≡ number (look kind (turns resumes (placeAt n)))
-arm resumes n kind r p e f =
-    f ∙ sym (number-look kind (turns resumes p)) ∙ ap (λ (q : Place). number (look kind (turns resumes q))) (sym (ap placeAt e ∙ placeAt-number p))
+-- no two places have one number
+pub same-place : (p q : Place) → number p ≡ number q → p ≡ q
+same-place p q e = sym (placeAt-number p) ∙ ap placeAt e ∙ placeAt-number q
 
-pub number-most : (p : Place) → number p ≤ 17
-unfolding number
-number-most beginning = omega arith
-number-most clientHello = omega arith
-number-most serverHello = omega arith
-number-most serverCertificate = omega arith
-number-most serverKeyExchange = omega arith
-number-most certificateRequest = omega arith
-number-most helloDone = omega arith
-number-most helloDoneRequested = omega arith
-number-most clientCertificate = omega arith
-number-most keyExchange = omega arith
-number-most keyExchangeCertified = omega arith
-number-most certificateVerify = omega arith
-number-most clientFirst = omega arith
-number-most completeFull = omega arith
-number-most resumingHello = omega arith
-number-most serverFirst = omega arith
-number-most completeResumed = omega arith
-number-most nowhere = omega arith
+unfoldable pub passes : (Place → Bool) → List Place → Bool
+passes t [] = t nowhere
+passes t (p ∷ ps) = t p && passes t ps
 
--- every turn of a row leads to a higher number than n
-above : ℕ → List (ℕ × Place) → Bool
-above n [] = true
-above n ((due, place) ∷ rest) = ltb n (number place) && above n rest
+passes-at : (t : Place → Bool) (ps : List Place) (n : ℕ) → passes t ps ≡ true → t (getD ps n nowhere) ≡ true
+unfolding passes
+passes-at t [] n e = e
+passes-at t (p ∷ ps) zero e = and-left (t p) (passes t ps) e
+passes-at t (p ∷ ps) (suc n) e = passes-at t ps n (and-right (t p) (passes t ps) e)
 
-above-turns : (resumes : Bool) (p : Place) → above (number p) (turns resumes p) ≡ true
-unfolding above number turns
-above-turns resumes beginning = refl
-above-turns false clientHello = refl
-above-turns true clientHello = refl
-above-turns resumes serverHello = refl
-above-turns resumes serverCertificate = refl
-above-turns resumes serverKeyExchange = refl
-above-turns resumes certificateRequest = refl
-above-turns resumes helloDone = refl
-above-turns resumes helloDoneRequested = refl
-above-turns resumes clientCertificate = refl
-above-turns resumes keyExchange = refl
-above-turns resumes keyExchangeCertified = refl
-above-turns resumes certificateVerify = refl
-above-turns resumes clientFirst = refl
-above-turns resumes completeFull = refl
-above-turns resumes resumingHello = refl
-above-turns resumes serverFirst = refl
-above-turns resumes completeResumed = refl
-above-turns resumes nowhere = refl
+-- what is computed of the listed places holds of every place
+pub each-place : (t : Place → Bool) → passes t places ≡ true → (p : Place) → t p ≡ true
+unfolding placeAt
+each-place t e p = subst (λ (q : Place). t q ≡ true) (placeAt-number p) (passes-at t places (number p) e)
 
-above-pick : (n : ℕ) (place other : Place) (more b t : Bool) → ltb n (number place) ≡ t → (t && more) ≡ true
-    → (more ≡ true → number other < 17 → n < number other)
-    → number (pick b place other) < 17 → n < number (pick b place other)
-above-pick n place other more true true e f k g = ltb-true n (number place) e
-above-pick n place other more false true e f k g = k f g
-above-pick n place other more b false e f k g = absurd (false≢true f)
+-- two tests that answer the same
+unfoldable pub alike : Bool → Bool → Bool
+alike true b = b
+alike false b = not b
 
-above-look : (n kind : ℕ) (row : List (ℕ × Place)) → above n row ≡ true → number (look kind row) < 17 → n < number (look kind row)
-unfolding above look number
-above-look n kind [] a h = absurd (omega arith)
-above-look n kind ((due, place) ∷ rest) a h =
-    above-pick n place (look kind rest) (above n rest) (eqb kind due) (ltb n (number place)) refl a (above-look n kind rest) h
+pub alike-same : (a b : Bool) → alike a b ≡ true → a ≡ b
+unfolding alike
+alike-same true true e = refl
+alike-same true false e = sym e
+alike-same false true e = e
+alike-same false false e = refl
 
--- a turn that is taken leads to a higher number
-pub rises : (resumes : Bool) (p : Place) (kind : ℕ) → number (look kind (turns resumes p)) < 17 → number p < number (look kind (turns resumes p))
-rises resumes p kind h = above-look (number p) kind (turns resumes p) (above-turns resumes p) h
+-- ---- every turn
 
-up : (k n : ℕ) → k ≤ n → (n ≡ k → ⊥) → suc k ≤ n
-up k n h e = omega arith
+each : (ℕ → Place → Bool) → List (ℕ × Place) → Bool
+each t [] = true
+each t ((due, place) ∷ rest) = t due place && each t rest
+
+-- what is computed of the turns of a row holds of a type that is due
+each-due : (t : ℕ → Place → Bool) (kind : ℕ) (row : List (ℕ × Place)) → each t row ≡ true → isDue kind row ≡ true → t kind (look kind row) ≡ true
+unfolding each isDue look
+each-due t kind [] e d = absurd (false≢true d)
+each-due t kind ((due, place) ∷ rest) e d =
+    go (eqb kind due) refl d (each-due t kind rest (and-right (t due place) (each t rest) e))
+  where
+    go : (b : Bool) → eqb kind due ≡ b → (b || isDue kind rest) ≡ true → (isDue kind rest ≡ true → t kind (look kind rest) ≡ true)
+        → t kind (pick b place (look kind rest)) ≡ true
+    go true f d g = rw (eqb-true kind due f) (and-left (t due place) (each t rest) e)
+    go false f d g = g d
+
+pub not-due : (kind : ℕ) (row : List (ℕ × Place)) → isDue kind row ≡ false → look kind row ≡ nowhere
+unfolding isDue look
+not-due kind [] d = refl
+not-due kind ((due, place) ∷ rest) d =
+    rw (or-left (eqb kind due) (isDue kind rest) d) (not-due kind rest (or-right (eqb kind due) (isDue kind rest) d))
+
+-- what the numbers say of a history: a ClientKeyExchange was accepted, it was told to resume, how many Finished are taken
+abbrev pub exchangedAt : ℕ → Bool
+exchangedAt n = leb 9 n && leb n 13
+
+abbrev pub resumedAt : ℕ → Bool
+resumedAt n = leb 14 n && leb n 16
+
+abbrev pub takenAt : ℕ → ℕ
+takenAt n = pick (eqb n 12 || eqb n 15) 1 (pick (eqb n 13 || eqb n 16) 2 0)
+
+-- what a turn does: the number rises, though not to nowhere's, and says what the history says
+pub record Turned (resumes : Bool) (n kind n′ : ℕ) : Type 0 where
+  pub rises : n < n′
+  pub most : n′ < 17
+  pub exchanged : exchangedAt n′ ≡ (eqb kind 16 || exchangedAt n)
+  pub resumed : resumedAt n′ ≡ pick (eqb kind 2) resumes (resumedAt n)
+  pub taken : takenAt n′ ≡ pick (eqb kind 20) (suc (takenAt n)) (takenAt n)
+
+turns-well : Bool → ℕ → ℕ → ℕ → Bool
+turns-well resumes n kind n′ =
+    ltb n n′
+    && (ltb n′ 17
+    && (alike (exchangedAt n′) (eqb kind 16 || exchangedAt n)
+    && (alike (resumedAt n′) (pick (eqb kind 2) resumes (resumedAt n))
+    && eqb (takenAt n′) (pick (eqb kind 20) (suc (takenAt n)) (takenAt n)))))
+
+turned-by : (resumes : Bool) (n kind n′ : ℕ) → turns-well resumes n kind n′ ≡ true → Turned resumes n kind n′
+unfolding turns-well
+turned-by resumes n kind n′ e =
+    let a : Bool = ltb n n′ in
+    let b : Bool = ltb n′ 17 in
+    let c : Bool = alike (exchangedAt n′) (eqb kind 16 || exchangedAt n) in
+    let d : Bool = alike (resumedAt n′) (pick (eqb kind 2) resumes (resumedAt n)) in
+    let t : Bool = eqb (takenAt n′) (pick (eqb kind 20) (suc (takenAt n)) (takenAt n)) in
+    let f = and-right a (b && (c && (d && t))) e in
+    let g = and-right b (c && (d && t)) f in
+    let h = and-right c (d && t) g in
+    record {
+      rises = ltb-true n n′ (and-left a (b && (c && (d && t))) e);
+      most = ltb-true n′ 17 (and-left b (c && (d && t)) f);
+      exchanged = alike-same _ _ (and-left c (d && t) g);
+      resumed = alike-same _ _ (and-left d t h);
+      taken = eqb-true _ _ (and-right d t h);
+    }
+
+all-turned : (resumes : Bool) (p : Place) → each (λ kind q. turns-well resumes (number p) kind (number q)) (turns resumes p) ≡ true
+unfolding number passes each turns turns-well alike
+all-turned true = each-place (λ p. each (λ kind q. turns-well true (number p) kind (number q)) (turns true p)) refl
+all-turned false = each-place (λ p. each (λ kind q. turns-well false (number p) kind (number q)) (turns false p)) refl
+
+pub turned : (resumes : Bool) (p : Place) (kind : ℕ) → isDue kind (turns resumes p) ≡ true → Turned resumes (number p) kind (number (look kind (turns resumes p)))
+turned resumes p kind d =
+    turned-by resumes (number p) kind (number (look kind (turns resumes p)))
+    (each-due (λ kind q. turns-well resumes (number p) kind (number q)) kind (turns resumes p) (all-turned resumes p) d)
+
+-- ---- a row by numbers, as the code has it
+
+-- where a type leads
+unfoldable pub leads : ℕ → List (ℕ × Place) → ℕ
+leads kind [] = 17
+leads kind ((due, place) ∷ rest) = pick (eqb kind due) (number place) (leads kind rest)
+
+number-pick : (b : Bool) (p q : Place) → number (pick b p q) ≡ pick b (number p) (number q)
+number-pick true p q = refl
+number-pick false p q = refl
+
+pub number-look : (kind : ℕ) (row : List (ℕ × Place)) → number (look kind row) ≡ leads kind row
+unfolding look leads number
+number-look kind [] = refl
+number-look kind ((due, place) ∷ rest) = number-pick (eqb kind due) place (look kind rest) ∙ ap (λ (n : ℕ). pick (eqb kind due) (number place) n) (number-look kind rest)
+
+pub by-row : (kind r : ℕ) (row : List (ℕ × Place)) → r ≡ leads kind row → r ≡ number (look kind row)
+by-row kind r row e = e ∙ sym (number-look kind row)
+
+-- an arm: the row of the place whose number it is
+pub arm : (resumes : Bool) (n kind r : ℕ) (q : Place) → n ≡ number q → r ≡ leads kind (turns resumes q)
+    → (p : Place) → n ≡ number p → r ≡ number (look kind (turns resumes p))
+arm resumes n kind r q e f p g =
+    by-row kind r (turns resumes q) f ∙ ap (λ (x : Place). number (look kind (turns resumes x))) (same-place q p (sym e ∙ g))
+
+-- is a number one of these?
+among : ℕ → List ℕ → Bool
+among n [] = false
+among n (k ∷ ks) = eqb n k || among n ks
 
 -- what the last arm of a `match` knows of its number, the arm before it first
 abbrev Other : ℕ → List ℕ → Type 0
 Other n [] = Unit {0}
 Other n (k ∷ ks) = Other n ks × (n ≡ k → ⊥)
 
-abbrev below : ℕ → List ℕ
-below zero = []
-below (suc k) = k ∷ below k
+other-among : (n : ℕ) (ks : List ℕ) → Other n ks → among n ks ≡ false
+unfolding among
+other-among n [] o = refl
+other-among n (k ∷ ks) o = rw (ne-eqb n k (o .1)) (other-among n ks (o .0))
 
-at-least : (k n : ℕ) → Other n (below k) → k ≤ n
-at-least zero n h = zero-le
-at-least (suc k) n h = up k n (at-least k n (h .0)) (h .1)
+none-due : List (ℕ × Place) → Bool
+none-due [] = true
+none-due (turn ∷ rest) = false
 
--- the last arm of the code: what is left are places with nothing in turn
-pub quiet : (resumes : Bool) (n kind : ℕ)
-    → Other n (15 ∷ 14 ∷ 12 ∷ 11 ∷ 10 ∷ 9 ∷ 8 ∷ 7 ∷ 6 ∷ 5 ∷ 4 ∷ 3 ∷ 2 ∷ 1 ∷ 0 ∷ [])
-    → number (look kind (turns resumes (placeAt n))) ≡ 17
-unfolding number look turns placeAt
-quiet resumes n kind h = by-test (eqb n 13) refl (eqb n 16) refl
-  where
-    full : 13 ≤ n
-    full = at-least 13 n (h .0 .0)
+none-leads : (kind : ℕ) (row : List (ℕ × Place)) → none-due row ≡ true → number (look kind row) ≡ 17
+unfolding none-due look number
+none-leads kind [] e = refl
+none-leads kind (turn ∷ rest) e = absurd (false≢true e)
 
-    by-test : (a : Bool) → eqb n 13 ≡ a → (b : Bool) → eqb n 16 ≡ b → number (look kind (turns resumes (placeAt n))) ≡ 17
-    by-test true e b f = rw (eqb-true n 13 e)
-    by-test false e true f = rw (eqb-true n 16 f)
-    by-test false e false f =
-        let g : 17 ≤ n = up 16 n (up 15 n (up 14 n (up 13 n full (eqb-false n 13 e)) (h .0 .1)) (h .1)) (eqb-false n 16 f) in
-        rw (List·getD-eq-default places nowhere {n = n} g)
+abbrev armed : List ℕ
+armed = 15 ∷ 14 ∷ 12 ∷ 11 ∷ 10 ∷ 9 ∷ 8 ∷ 7 ∷ 6 ∷ 5 ∷ 4 ∷ 3 ∷ 2 ∷ 1 ∷ 0 ∷ []
+
+silent : (resumes : Bool) (p : Place) → (among (number p) armed || none-due (turns resumes p)) ≡ true
+unfolding number passes among none-due turns
+silent true = each-place (λ q. among (number q) armed || none-due (turns true q)) refl
+silent false = each-place (λ q. among (number q) armed || none-due (turns false q)) refl
+
+-- the last arm: what is left are places with nothing in turn
+pub quiet : (resumes : Bool) (n kind : ℕ) → Other n armed → (p : Place) → n ≡ number p → 17 ≡ number (look kind (turns resumes p))
+quiet resumes n kind o p e =
+    sym (none-leads kind (turns resumes p) (rw (other-among (number p) armed (subst (λ (x : ℕ). Other x armed) e o)) at (silent resumes p)))
 
 -- a number that is not nowhere's
-pub somewhere-number : (p : Place) → not (eqb (number p) 17) ≡ somewhere p
-unfolding somewhere number
-somewhere-number p = refl
-
-pub due-number : (p : Place) (r : ℕ) → r ≡ number (look 20 (turns false p)) → not (eqb r 17) ≡ finishedDue p
-unfolding finishedDue
-due-number p r e = rw e (somewhere-number (look 20 (turns false p)))
+pub due-number : (resumes : Bool) (p : Place) (kind r : ℕ) → r ≡ number (look kind (turns resumes p)) → not (eqb r 17) ≡ isDue kind (turns resumes p)
+unfolding number
+due-number resumes p kind r e =
+    by-test (isDue kind (turns resumes p))
+    (λ d. rw (d, ne-eqb r 17 (λ f. omega (arith, turned resumes p kind d .most, e, f))))
+    (λ d. rw (d, e, not-due kind (turns resumes p) d))

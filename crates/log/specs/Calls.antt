@@ -1,7 +1,7 @@
 -- What each call answers, and the history after it (document 01, 'The message log'; the order of the numbers is that of 'Numbers
 -- answered').
 -- Assumes nothing.
-use mathlib.Core.Bool.{Bool, false, not, _&&_, _||_}
+use mathlib.Core.Bool.{Bool, true, false, not, _&&_, _||_}
 use mathlib.Core.List.{List, [], _∷_}
 use mathlib.Core.Option.{Option, none, some}
 use Prim.Native.Nat.{ℕ}
@@ -13,10 +13,10 @@ use Rattle.refusal.specs.First.{firstOf}
 use Rattle.refusal.specs.Table.{refusalOf}
 use Rattle.octets.specs.Same.{same}
 use Rattle.message.specs.Frame.{kindOf, bodyOf, overlong, misstated}
-use Rattle.log.specs.Order.{turns, look, somewhere, exchanged, complete, resumed}
-use Rattle.log.specs.Order.Side.{client, server}
-use Rattle.log.specs.History.{History, placeOf, sessionHash, remembered, verifyDataOf}
-use Rattle.log.specs.History.History.{accepted}
+use Rattle.log.specs.Order.{turns, isDue}
+use Rattle.log.specs.History.{History, placeOf, sessionHash, remembered, exchanged, resumed, complete, verifyDataOf}
+use Rattle.log.specs.History.Side.{client, server}
+use Rattle.log.specs.History.History.{fresh, accepted, checked}
 use Rattle.log.specs.declared.answers.SessionHash.{SessionHash}
 use Rattle.log.specs.declared.answers.Finished.{Finished}
 
@@ -33,7 +33,13 @@ shapeNumber m = firstOf ((10, overlong m) ∷ (1, misstated m) ∷ (1, misshapen
 
 -- type 0 'is accepted anywhere'; 'Anything else is 7.'
 unfoldable pub outOfTurn : History → List ℕ → Bool → Bool
-outOfTurn h m resumes = not (eqb (kindOf m) 0) && not (somewhere (look (kindOf m) (turns resumes (placeOf h))))
+outOfTurn h m resumes = not (eqb (kindOf m) 0) && not (isDue (kindOf m) (turns resumes (placeOf h)))
+
+-- was each message in turn? From fresh by the calls there is no other history.
+unfoldable pub inOrder : History → Bool
+inOrder fresh = true
+inOrder (accepted h m resumes) = not (outOfTurn h m resumes) && inOrder h
+inOrder (checked h m) = inOrder h
 
 unfoldable pub isMessage : List ℕ → Option (List ℕ) → Bool
 isMessage m none = false
@@ -59,7 +65,7 @@ afterAccept h m resumes = pick (eqb (acceptNumber h m resumes) 0) (accepted h m 
 
 -- the session hash; 'asked earlier, or in a resumed log, it is 7'
 unfoldable pub sessionNumber : History → ℕ
-sessionNumber h = firstOf ((7, not (exchanged (placeOf h))) ∷ [])
+sessionNumber h = firstOf ((7, not (exchanged h)) ∷ [])
 
 unfoldable pub sessionHashOf : History → SessionHash
 sessionHashOf h =
@@ -71,6 +77,6 @@ sessionHashOf h =
 -- what completion asks of a log: are both Finished taken, does it resume, and 'both values', the client's and the server's; nothing before
 unfoldable pub finishedOf : History → Finished
 finishedOf h =
-    pick (complete (placeOf h))
-    (record { complete = 1; resumed = bit (resumed (placeOf h)); client = verifyDataOf client h; server = verifyDataOf server h })
+    pick (complete h)
+    (record { complete = 1; resumed = bit (resumed h); client = verifyDataOf client h; server = verifyDataOf server h })
     (record { complete = 0; resumed = 0; client = replicate 12 0; server = replicate 12 0 })

@@ -13,15 +13,15 @@ use Rattle.message.specs.Frame.{kindOf, bodyOf, overlong, misstated}
 use Rattle.sha256.specs.Sha256.{sha256}
 use Rattle.prf.specs.Hash.{SHA256}
 use Rattle.prf.specs.Secrets.{verifyData}
-use Rattle.log.specs.Order.{finishedDue, fromServer}
-use Rattle.log.specs.History.{History, placeOf, hashed}
+use Rattle.log.specs.Order.{finishedDue}
+use Rattle.log.specs.History.{History, placeOf, hashed, fromServer}
 use Rattle.log.specs.History.History.{checked}
 use Rattle.log.specs.Calls.{misshapen}
 use Rattle.log.specs.declared.answers.Expected.{Expected}
 
 -- 'expected is PRF(secret, "client finished" or "server finished", hash of the log so far), first 12 bytes'
 unfoldable pub expectedValue : History → List ℕ → List ℕ
-expectedValue h secret = verifyData SHA256 secret (fromServer (placeOf h)) (sha256 (hashed h))
+expectedValue h secret = verifyData SHA256 secret (fromServer h) (sha256 (hashed h))
 
 -- 'a third call gives them, with the same 10 and 7'
 unfoldable pub expectedNumber : History → List ℕ → ℕ

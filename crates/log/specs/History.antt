@@ -1,17 +1,16 @@
 -- What a log stands for: its history, and what document 01, 'The message log', makes of it.
 -- Assumes nothing.
-use mathlib.Core.Bool.{Bool, true, false, _&&_}
+use mathlib.Core.Bool.{Bool, false, not, _&&_, _||_}
 use mathlib.Core.List.{List, [], _++_}
 use mathlib.Core.Option.{Option, none, some}
-use Prim.Native.Nat.{ℕ}
+use Prim.Native.Nat.{ℕ, suc}
 use lib.Dec.{eqb}
 use lib.ListN.{replicate}
 use Rattle.seqs.specs.Pick.{pick}
 use Rattle.message.specs.Frame.{kindOf, bodyOf}
 use Rattle.sha256.specs.Sha256.{sha256}
-use Rattle.log.specs.Order.{Place, Side, turns, look, sideAt}
+use Rattle.log.specs.Order.{Place, turns, look}
 use Rattle.log.specs.Order.Place.{beginning}
-use Rattle.log.specs.Order.Side.{client, server}
 
 -- The calls that were not refused, the latest outermost.
 pub data History : Type 0 where
@@ -46,15 +45,41 @@ remembered fresh = none
 remembered (accepted h m resumes) = none
 remembered (checked h m) = some m
 
-unfoldable pub sameSide : Side → Side → Bool
-sameSide client client = true
-sameSide client server = false
-sameSide server client = false
-sameSide server server = true
+-- was a ClientKeyExchange, type 16, accepted?
+unfoldable pub exchanged : History → Bool
+exchanged fresh = false
+exchanged (accepted h m resumes) = eqb (kindOf m) 16 || exchanged h
+exchanged (checked h m) = exchanged h
+
+-- 'With the ServerHello', type 2, 'the log is told whether it resumes'
+unfoldable pub resumed : History → Bool
+resumed fresh = false
+resumed (accepted h m resumes) = pick (eqb (kindOf m) 2) resumes (resumed h)
+resumed (checked h m) = resumed h
+
+-- how many Finished, type 20, are taken; 'both'
+unfoldable pub finishedTaken : History → ℕ
+finishedTaken fresh = 0
+finishedTaken (accepted h m resumes) = pick (eqb (kindOf m) 20) (suc (finishedTaken h)) (finishedTaken h)
+finishedTaken (checked h m) = finishedTaken h
+
+unfoldable pub complete : History → Bool
+complete h = eqb (finishedTaken h) 2
+
+-- is the next Finished the server's? '20 (client), 20 (server)': with one taken; where it resumes '20 (server), 20 (client)': with none
+unfoldable pub fromServer : History → Bool
+fromServer h = eqb (finishedTaken h) (pick (resumed h) 0 1)
+
+pub data Side : Type 0 where
+  client server : Side
+
+-- is it this side's?
+unfoldable pub isFrom : Side → History → Bool
+isFrom client h = not (fromServer h)
+isFrom server h = fromServer h
 
 -- verify_data of a side's Finished, once that is taken; zeros before
 unfoldable pub verifyDataOf : Side → History → List ℕ
 verifyDataOf side fresh = replicate 12 0
-verifyDataOf side (accepted h m resumes) =
-    pick (eqb (kindOf m) 20 && sameSide side (sideAt (placeOf h))) (bodyOf m) (verifyDataOf side h)
+verifyDataOf side (accepted h m resumes) = pick (eqb (kindOf m) 20 && isFrom side h) (bodyOf m) (verifyDataOf side h)
 verifyDataOf side (checked h m) = verifyDataOf side h

@@ -1,11 +1,10 @@
 -- The order of a handshake's messages (document 01, 'The message log'), as an automaton on their types (HandshakeType of RFC 5246,
 -- section 7.4).
 -- Assumes nothing.
-use mathlib.Core.Bool.{Bool, true, false, not, _&&_, _||_}
+use mathlib.Core.Bool.{Bool, true, false, _||_}
 use mathlib.Core.List.{List, [], _∷_}
 use Prim.Native.Nat.{ℕ}
-use lib.Dec.{eqb, leb}
-use lib.ListN.{getD}
+use lib.Dec.{eqb}
 use Rattle.seqs.specs.Pick.{pick}
 
 -- Where a handshake stands, named by the message that was accepted last.
@@ -53,74 +52,16 @@ turns resumes serverFirst = (20, completeResumed) ∷ []
 turns resumes completeResumed = []
 turns resumes nowhere = []
 
--- where a type leads: 'Anything else is 7.'
+-- is a type in turn? 'Anything else is 7.'
+unfoldable pub isDue : ℕ → List (ℕ × Place) → Bool
+isDue kind [] = false
+isDue kind ((due, place) ∷ rest) = eqb kind due || isDue kind rest
+
+-- where it leads
 unfoldable pub look : ℕ → List (ℕ × Place) → Place
 look kind [] = nowhere
 look kind ((due, place) ∷ rest) = pick (eqb kind due) place (look kind rest)
 
--- the places' numbers, which rise along the order
-unfoldable pub number : Place → ℕ
-number beginning = 0
-number clientHello = 1
-number serverHello = 2
-number serverCertificate = 3
-number serverKeyExchange = 4
-number certificateRequest = 5
-number helloDone = 6
-number helloDoneRequested = 7
-number clientCertificate = 8
-number keyExchange = 9
-number keyExchangeCertified = 10
-number certificateVerify = 11
-number clientFirst = 12
-number completeFull = 13
-number resumingHello = 14
-number serverFirst = 15
-number completeResumed = 16
-number nowhere = 17
-
--- the places, from number 0 on
-abbrev pub places : List Place
-places =
-    beginning ∷ clientHello ∷ serverHello ∷ serverCertificate ∷ serverKeyExchange ∷ certificateRequest ∷ helloDone ∷ helloDoneRequested
-    ∷ clientCertificate ∷ keyExchange ∷ keyExchangeCertified ∷ certificateVerify ∷ clientFirst ∷ completeFull ∷ resumingHello ∷ serverFirst
-    ∷ completeResumed ∷ []
-
-unfoldable pub placeAt : ℕ → Place
-placeAt n = getD places n nowhere
-
--- the same place; a place of the order from one to another
-abbrev pub isPlace : Place → Place → Bool
-isPlace p q = eqb (number p) (number q)
-
-abbrev pub between : Place → Place → Place → Bool
-between first last p = leb (number first) (number p) && leb (number p) (number last)
-
-unfoldable pub somewhere : Place → Bool
-somewhere p = not (isPlace p nowhere)
-
 -- is a Finished, type 20, in turn? (What was told counts with a ServerHello alone.)
 unfoldable pub finishedDue : Place → Bool
-finishedDue p = somewhere (look 20 (turns false p))
-
-pub data Side : Type 0 where
-  client server : Side
-
--- whose Finished is in turn: the server's after the client's in the full order, and after the ServerHello in the resumed one
-unfoldable pub fromServer : Place → Bool
-fromServer p = isPlace p clientFirst || isPlace p resumingHello
-
-unfoldable pub sideAt : Place → Side
-sideAt p = pick (fromServer p) server client
-
--- the full order from its ClientKeyExchange on
-unfoldable pub exchanged : Place → Bool
-exchanged p = between keyExchange completeFull p
-
--- the resumed order, from its ServerHello on
-unfoldable pub resumed : Place → Bool
-resumed p = between resumingHello completeResumed p
-
--- both Finished are taken
-unfoldable pub complete : Place → Bool
-complete p = isPlace p completeFull || isPlace p completeResumed
+finishedDue p = isDue 20 (turns false p)

@@ -1,12 +1,18 @@
 -- Document 01's orders written out, and a handshake by its types alone: what the table of turns is held to.
 -- Assumes nothing.
 use mathlib.Core.Path.{_≡_}
-use mathlib.Core.Bool.{Bool, true, false}
+use mathlib.Core.Bool.{Bool, true, false, _&&_}
+use mathlib.Core.Logic.{_⊎_}
 use mathlib.Core.List.{List, [], _∷_, _++_, List·Memᴰ}
 use Prim.Native.Nat.{ℕ}
+use lib.Dec.{eqb}
 use Rattle.seqs.specs.Pick.{pick}
-use Rattle.log.specs.Order.{Place, turns, look, complete}
-use Rattle.log.specs.Order.Place.{beginning}
+use Rattle.message.specs.Frame.{kindOf}
+use Rattle.log.specs.Order.{Place, turns, isDue, look}
+use Rattle.log.specs.Order.Place.{beginning, completeFull, completeResumed}
+use Rattle.log.specs.History.{History, resumed, complete}
+use Rattle.log.specs.History.History.{fresh, accepted, checked}
+use Rattle.log.specs.Calls.{inOrder, sessionNumber}
 
 -- a type that may be there
 abbrev pub optional : Bool → ℕ → List ℕ
@@ -28,12 +34,43 @@ orders false =
     ∷ fullOrder false false true true ∷ fullOrder false false true false ∷ fullOrder false false false false ∷ []
 orders true = (1 ∷ 2 ∷ 20 ∷ 20 ∷ []) ∷ []
 
+-- the types begin one of them
+abbrev pub Begins : Bool → List ℕ → Type 0
+Begins resumes l = (rest : List ℕ) × List·Memᴰ (l ++ rest) (orders resumes)
+
 -- where messages of these types lead, one after the other
 unfoldable pub walk : Bool → Place → List ℕ → Place
 walk resumes p [] = p
 walk resumes p (kind ∷ rest) = walk resumes (look kind (turns resumes p)) rest
 
--- the table of turns completes these orders and no others
+-- is each of them in turn?
+unfoldable pub walks : Bool → Place → List ℕ → Bool
+walks resumes p [] = true
+walks resumes p (kind ∷ rest) = isDue kind (turns resumes p) && walks resumes (look kind (turns resumes p)) rest
+
+-- where an order ends
+abbrev pub Ended : Place → Type 0
+Ended p = (p ≡ completeFull) ⊎ (p ≡ completeResumed)
+
+-- the table of turns completes these orders and no others, and takes what begins one of them and nothing else
 pub record Orderly (resumes : Bool) : Type 0 where
-  pub every : (l : List ℕ) → List·Memᴰ l (orders resumes) → complete (walk resumes beginning l) ≡ true
-  pub only : (l : List ℕ) → complete (walk resumes beginning l) ≡ true → List·Memᴰ l (orders resumes)
+  pub every : (l : List ℕ) → List·Memᴰ l (orders resumes) → Ended (walk resumes beginning l)
+  pub only : (l : List ℕ) → Ended (walk resumes beginning l) → List·Memᴰ l (orders resumes)
+  pub along : (l : List ℕ) → Begins resumes l → walks resumes beginning l ≡ true
+  pub begins : (l : List ℕ) → walks resumes beginning l ≡ true → Begins resumes l
+
+-- the types of the accepted messages, the latest last; type 0 'is accepted anywhere' and is left out
+unfoldable pub typesOf : History → List ℕ
+typesOf fresh = []
+typesOf (accepted h m resumes) = pick (eqb (kindOf m) 0) (typesOf h) (typesOf h ++ (kindOf m ∷ []))
+typesOf (checked h m) = typesOf h
+
+-- the same of a history, by what it was told: each message was in turn exactly if the types begin an order, and then both Finished are taken
+-- exactly if they are one
+pub record Ordered (h : History) : Type 0 where
+  pub along : Begins (resumed h) (typesOf h) → inOrder h ≡ true
+  pub begins : inOrder h ≡ true → Begins (resumed h) (typesOf h)
+  pub every : inOrder h ≡ true → List·Memᴰ (typesOf h) (orders (resumed h)) → complete h ≡ true
+  pub only : inOrder h ≡ true → complete h ≡ true → List·Memᴰ (typesOf h) (orders (resumed h))
+  -- the session hash: 'in a resumed log, it is 7'
+  pub unhashed : inOrder h ≡ true → resumed h ≡ true → sessionNumber h ≡ 7

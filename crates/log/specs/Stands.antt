@@ -1,6 +1,7 @@
 -- The relation between a log and the history that it stands for.
 -- Assumes nothing.
 use mathlib.Core.Path.{_≡_}
+use mathlib.Core.Bool.{true}
 use mathlib.Core.List.{List, _∷_}
 use mathlib.Core.Option.{Option, none, some}
 use Prim.Native.Nat.{ℕ, _*_, _≤_}
@@ -8,10 +9,38 @@ use lib.Dec.{eqb}
 use lib.ListN.{length}
 use Rattle.seqs.specs.Pick.{pick}
 use Rattle.sha256.specs.Running.{Running}
-use Rattle.log.specs.Order.{number}
-use Rattle.log.specs.Order.Side.{client, server}
+use Rattle.log.specs.Order.{Place}
+use Rattle.log.specs.Order.Place.{beginning, clientHello, serverHello, serverCertificate, serverKeyExchange, certificateRequest, helloDone, helloDoneRequested, clientCertificate, keyExchange, keyExchangeCertified, certificateVerify, clientFirst, completeFull, resumingHello, serverFirst, completeResumed, nowhere}
 use Rattle.log.specs.History.{History, placeOf, hashed, sessionHash, remembered, verifyDataOf}
+use Rattle.log.specs.History.Side.{client, server}
+use Rattle.log.specs.Calls.{inOrder}
 use Rattle.log.specs.declared.state.Log.{Log}
+
+-- the number that a log has for a place; they rise along the order
+unfoldable pub number : Place → ℕ
+number beginning = 0
+number clientHello = 1
+number serverHello = 2
+number serverCertificate = 3
+number serverKeyExchange = 4
+number certificateRequest = 5
+number helloDone = 6
+number helloDoneRequested = 7
+number clientCertificate = 8
+number keyExchange = 9
+number keyExchangeCertified = 10
+number certificateVerify = 11
+number clientFirst = 12
+number completeFull = 13
+number resumingHello = 14
+number serverFirst = 15
+number completeResumed = 16
+number nowhere = 17
+
+-- a log's number for where a history stands
+pub record Placed (n : ℕ) (h : History) : Type 0 where
+  pub number : n ≡ number (placeOf h)
+  pub order : inOrder h ≡ true
 
 -- the Finished message with this verify_data
 unfoldable pub finishedWith : List ℕ → List ℕ
@@ -22,7 +51,7 @@ unfoldable pub memory : Log → Option (List ℕ)
 memory log = pick (eqb (log .checked) 0) none (some (finishedWith (log .value)))
 
 pub record Stands (log : Log) (h : History) : Type 0 where
-  pub place : log .place ≡ number (placeOf h)
+  pub place : Placed (log .place) h
   pub hash : Running (log .hash) (hashed h)
   -- each hashed message has at most 16,388 bytes and leads to a place of a higher number, and there are 17 of those: the hash's own bound
   -- is never reached

@@ -1,17 +1,17 @@
 -- What the log's own helpers promise: the steps of a call.
 -- Assumes nothing.
 use mathlib.Core.Path.{_≡_}
-use mathlib.Core.Bool.{Bool}
+use mathlib.Core.Bool.{Bool, true}
 use mathlib.Core.List.{List}
-use Prim.Native.Nat.{ℕ, _≤_, _<_}
+use Prim.Native.Nat.{ℕ, _≤_}
 use lib.ListN.{length}
 use Rattle.refusal.specs.Table.{refusalOf}
 use Rattle.message.specs.Frame.{kindOf, bodyOf}
-use Rattle.log.specs.Order.{turns, look, number}
+use Rattle.log.specs.Order.{turns, look, isDue}
 use Rattle.log.specs.History.{History, placeOf}
 use Rattle.log.specs.History.History.{accepted}
 use Rattle.log.specs.Calls.{shapeNumber}
-use Rattle.log.specs.Stands.{Stands}
+use Rattle.log.specs.Stands.{Stands, number}
 use Rattle.refusal.specs.Listed.{Listed}
 use Rattle.log.specs.declared.shape.Judged.{Judged}
 use Rattle.log.specs.declared.state.Log.{Log}
@@ -52,7 +52,7 @@ pub record InTurn (log : Log) (h : History) (m : List ℕ) (resumes : Bool) (k p
   pub kind : k ≡ kindOf m
   pub hashed : k ≡ 0 → ⊥
   pub place : p ≡ number (look (kindOf m) (turns resumes (placeOf h)))
-  pub below : p < 17
+  pub due : isDue (kindOf m) (turns resumes (placeOf h)) ≡ true
   pub size : length m ≤ 16388
   pub value : k ≡ 20 → log .value ≡ bodyOf m
 

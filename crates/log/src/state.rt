@@ -5,7 +5,7 @@ use crate::order;
 use crate::shape;
 use sha256::Hash;
 ghost use mathlib.Core.Path.{_≡_};
-ghost use mathlib.Core.Bool.{false, not, _&&_, _||_};
+ghost use mathlib.Core.Bool.{false, _&&_};
 ghost use mathlib.Core.List.{List};
 ghost use Prim.Native.Nat.{ℕ, _≤_};
 ghost use lib.Dec.{eqb};
@@ -16,8 +16,10 @@ ghost use Rattle.message.specs.Frame.{bodyOf};
 ghost use Rattle.refusal.specs.Table.{refusalOf};
 ghost use Rattle.sha256.specs.Running.{Running};
 ghost use Rattle.sha256.specs.Sha256.{sha256};
+ghost use Rattle.log.specs.History.{History, isFrom};
 ghost use Rattle.log.specs.History.History.{fresh};
-ghost use Rattle.log.specs.Stands.{Stands};
+ghost use Rattle.log.specs.History.Side.{client, server};
+ghost use Rattle.log.specs.Stands.{Stands, Placed};
 ghost use Rattle.log.specs.Promise.{Accepts, Hashes};
 ghost use Rattle.log.specs.Steps.{Takes, forgetting};
 
@@ -148,7 +150,7 @@ impl Log {
 
     // A Finished that is taken is the one that was checked, so that its verify_data is at hand.
     fn client_with(self, kind: u8) -> [u8; 12]
-        ensures { λ r. ⌜ r ≡ pick (eqb kind 20 && not (eqb (self .place) 12 || eqb (self .place) 14)) (self .value) (self .client) ⌝ }
+        ensures { λ r. ⌜ ((h : History) → Placed (self .place) h → r ≡ pick (eqb kind 20 && isFrom client h) (self .value) (self .client)) ⌝ }
     {
         if kind != shape::FINISHED {
             return self.client;
@@ -160,7 +162,7 @@ impl Log {
     }
 
     fn server_with(self, kind: u8) -> [u8; 12]
-        ensures { λ r. ⌜ r ≡ pick (eqb kind 20 && (eqb (self .place) 12 || eqb (self .place) 14)) (self .value) (self .server) ⌝ }
+        ensures { λ r. ⌜ ((h : History) → Placed (self .place) h → r ≡ pick (eqb kind 20 && isFrom server h) (self .value) (self .server)) ⌝ }
     {
         if kind != shape::FINISHED {
             return self.server;

@@ -1,6 +1,7 @@
 -- A Finished is in turn where it leads somewhere.
 -- Assumes nothing.
-use Rattle.log.specs.Order.{placeAt}
+use mathlib.Core.Bool.{false}
+use Rattle.log.specs.Order.{finishedDue}
 use Rattle.log.proofs.Turns.{due-number}
 use borrow.Author.Needs.{needs}
 use Rattle.log.proofs.order.finished_due.Statement.{statement}
@@ -10,7 +11,8 @@ next-requires : tie.Need-next-requires
 next-requires c κs = search needs
 
 returns : tie.Need-returns
-returns c = due-number (placeAt (c .before .args .place)) (c .next .result) (c .next .ensures)
+unfolding finishedDue
+returns c p e = due-number false p 20 (c .next .result) (c .next .ensures p e)
 
 pub finished-due-spec : {M : Type 1} → statement M
 finished-due-spec = tie.close (tie.spec next-requires returns)

@@ -1,9 +1,11 @@
 -- Each arm is the row of its place.
 -- Assumes nothing.
-use mathlib.Core.Path.{_∙_, sym}
-use Rattle.log.specs.Order.{number, turns}
+use mathlib.Core.Path.{_∙_}
+use mathlib.Core.Bool.{false}
+use Rattle.log.specs.Order.{turns}
 use Rattle.log.specs.Order.Place.{beginning, clientHello, serverHello, serverCertificate, serverKeyExchange, certificateRequest, helloDone, helloDoneRequested, clientCertificate, keyExchange, keyExchangeCertified, certificateVerify, clientFirst, resumingHello, serverFirst}
-use Rattle.log.proofs.Turns.{leads, arm, quiet}
+use Rattle.log.specs.Stands.{number}
+use Rattle.log.proofs.Turns.{leads, number-look, arm, quiet}
 use borrow.Author.Needs.{needs}
 use Rattle.log.proofs.order.next.Statement.{statement}
 use Rattle.log.proofs.order.next.Tie as tie
@@ -76,15 +78,15 @@ returns-3 c = arm _ _ _ _ clientHello (c .before .before .match .keys2) (c .turn
 
 returns-4 : tie.Need-returns-4
 unfolding turns leads number
-returns-4 c = arm _ _ _ _ serverHello (c .before .before .match .keys3) (c .turn4 .ensures ∙ (rw (c .before .past-certificate .ensures)))
+returns-4 c = arm _ _ _ _ serverHello (c .before .before .match .keys3) (c .turn4 .ensures ∙ (rw (c .before .past-certificate .ensures false, number-look _ (turns false serverCertificate))))
 
 returns-5 : tie.Need-returns-5
 unfolding turns leads number
-returns-5 c = arm _ _ _ _ serverCertificate (c .before .match .keys4) (c .past-certificate2 .ensures)
+returns-5 c = arm _ _ _ _ serverCertificate (c .before .match .keys4) (c .past-certificate2 .ensures false ∙ number-look _ (turns false serverCertificate))
 
 returns-6 : tie.Need-returns-6
 unfolding turns leads number
-returns-6 c = arm _ _ _ _ serverKeyExchange (c .before .match .keys5) (c .past-key-exchange .ensures)
+returns-6 c = arm _ _ _ _ serverKeyExchange (c .before .match .keys5) (c .past-key-exchange .ensures false ∙ number-look _ (turns false serverKeyExchange))
 
 returns-7 : tie.Need-returns-7
 unfolding turns leads number
@@ -127,7 +129,7 @@ unfolding turns leads number
 returns-16 c = arm _ _ _ _ serverFirst (c .before .match .keys15) (c .turn15 .ensures)
 
 returns-17 : tie.Need-returns-17
-returns-17 c = sym (quiet _ _ _ (c .match .rest))
+returns-17 c = quiet _ _ _ (c .match .rest)
 
 pub next-spec : {M : Type 1} → statement M
 next-spec =

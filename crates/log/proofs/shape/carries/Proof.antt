@@ -1,7 +1,5 @@
 -- The body is what follows the header.
 -- Assumes nothing.
--- The body is what follows the header.
--- Assumes nothing.
 use Prim.Native.Nat.{_-_}
 use native.Mathlib.Omega.{arith}
 use lib.ListN.{length, drop, length-drop}

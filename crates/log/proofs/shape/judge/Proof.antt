@@ -1,7 +1,5 @@
 -- The judgement of a message by itself: its header, then its body.
 -- Assumes nothing.
--- The judgement of a message by itself: its header, then its body.
--- Assumes nothing.
 use mathlib.Core.Path.{sym, _∙_}
 use Rattle.log.proofs.Messages.{judge-refused, judge-right, judge-wrong}
 use borrow.Author.Needs.{needs}

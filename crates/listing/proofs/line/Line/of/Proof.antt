@@ -2,7 +2,7 @@
 -- Assumes nothing.
 use native.Mathlib.Omega.{arith}
 use Rattle.listing.specs.Digits.{ascii}
-use Rattle.listing.specs.Texts.{row}
+use Rattle.listing.specs.Texts.{printed}
 use borrow.Author.Needs.{needs}
 use Rattle.listing.proofs.line.Line.of.Statement.{statement}
 use Rattle.listing.proofs.line.Line.of.Tie as tie
@@ -35,7 +35,7 @@ byte-requires-4 : tie.Need-byte-requires-4
 byte-requires-4 c κs = search needs
 
 returns : tie.Need-returns
-unfolding row ascii
+unfolding printed ascii
 returns c =
     (rw (c .byte4 .ensures .0, c .before .column2 .ensures .0, c .before .before .byte3 .ensures .0, c .before .before .before .number2 .ensures .0, c .before .before .before .before .byte2 .ensures .0, c .before .before .before .before .before .column .ensures .0, c .before .before .before .before .before .before .byte .ensures .0, c .before .before .before .before .before .before .before .number .ensures .0, c .before .before .before .before .before .before .before .before .empty .ensures .0), omega arith)
 

@@ -16,7 +16,7 @@ verify-data-requires : tie.Need-verify-data-requires
 verify-data-requires c κs = search needs
 
 returns : tie.Need-returns
-returns c h s = expected-by _ h _ _ _ (c .before .verify-data .result) s (c .before .before .before .before .before .before .pre) (c .before .verify-data .ensures) (c .before .before .before .from-server .ensures) (c .before .before .digest .ensures (hashed h) (s .hash))
+returns c h s = expected-by h _ _ _ (c .before .verify-data .result) (c .before .before .before .before .before .before .pre) (c .before .verify-data .ensures) (c .before .before .before .from-server .ensures h (s .place)) (c .before .before .digest .ensures (hashed h) (s .hash))
 
 pub expected-value-spec : {M : Type 1} → statement M
 expected-value-spec =

@@ -1,7 +1,5 @@
 -- What is remembered, compared with the body of a message.
 -- Assumes nothing.
--- What is remembered, compared with the body of a message.
--- Assumes nothing.
 use borrow.Author.Tests.{eq-eqb, ne-eqb}
 use borrow.Author.Needs.{needs}
 use Rattle.log.proofs.state.Log.remembers.Statement.{statement}
