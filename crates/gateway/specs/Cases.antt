@@ -8,7 +8,7 @@ use mathlib.Core.Option.{none, some}
 use Prim.Native.Nat.{ℕ, zero, suc, _+_}
 use lib.ListN.{length, take, replicate}
 use Rattle.hello.specs.Layout.{Parse}
-use Rattle.hello.specs.Layout.Parse.{malformed, holds}
+use Rattle.hello.specs.Layout.Parse.{malformed, parsed}
 use Rattle.hello.specs.Extensions.{Extension, extensionsOf, indicationOf, emsOf}
 use Rattle.hello.specs.Fields.{Hello, fields, fault, readClient, readServer}
 use Rattle.sessions.specs.Book.{Call, store, empty, bookFrom, sought}
@@ -27,7 +27,7 @@ use Rattle.log.specs.Check.{checkNumber, expectedNumber}
 -- what a list of extensions says, where it is one
 abbrev pub inList : {A : Type 0} → (List Extension → A) → Parse (List Extension) → Parse A
 inList f malformed = malformed
-inList f (holds es) = holds (f es)
+inList f (parsed es) = parsed (f es)
 
 -- a handshake message
 abbrev pub message : ℕ → List ℕ → List ℕ
@@ -126,9 +126,9 @@ crowded = stores 1 0 8 ++ stores 2 10 8 ++ stores 3 20 8 ++ stores 4 30 8 ++ sto
 
 pub record Cases : Type 0 where
   -- 'ff 01 00 01 00 is an empty RI.'
-  pub empty-ri : inList indicationOf (extensionsOf (0xff ∷ 0x01 ∷ 0x00 ∷ 0x01 ∷ 0x00 ∷ [])) ≡ holds (some [])
+  pub empty-ri : inList indicationOf (extensionsOf (0xff ∷ 0x01 ∷ 0x00 ∷ 0x01 ∷ 0x00 ∷ [])) ≡ parsed (some [])
   -- '00 17 00 00 is EMS.'
-  pub ems : inList emsOf (extensionsOf (0x00 ∷ 0x17 ∷ 0x00 ∷ 0x00 ∷ [])) ≡ holds true
+  pub ems : inList emsOf (extensionsOf (0x00 ∷ 0x17 ∷ 0x00 ∷ 0x00 ∷ [])) ≡ parsed true
   -- '00 17 00 01 00 is malformed.'
   pub ems-with-data : extensionsOf (0x00 ∷ 0x17 ∷ 0x00 ∷ 0x01 ∷ 0x00 ∷ []) ≡ malformed
   pub smallest-hellos : SmallestHellos

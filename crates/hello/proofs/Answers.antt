@@ -17,7 +17,7 @@ use Rattle.message.specs.declared.header.Header.{Header}
 use Rattle.message.specs.declared.header.Framed.{Framed}
 use Rattle.message.specs.declared.header.Framed.the-variants as framed
 use Rattle.message.proofs.Frames.{whole-learnt, refused-learnt}
-use Rattle.hello.specs.Layout.{Parse, malformed, holds}
+use Rattle.hello.specs.Layout.{Parse, malformed, parsed}
 use Rattle.hello.specs.Extensions.{Extension, twice}
 use Rattle.hello.specs.Fields.{Hello, Reading, fields, fault, clientLayout, serverLayout, wrongClientVersion, wrongServerVersion, helloNumber, readingOf, readClient, readServer}
 use Rattle.hello.specs.Places.{clientPlaces, serverPlaces, clientAnswer, serverAnswer}
@@ -90,7 +90,7 @@ serverReader =
 
 fault-of : (n : ℕ) (p : Parse Hello) → readingOf (suc n) p ≡ fault (suc n)
 fault-of n malformed = refl
-fault-of n (holds f) = refl
+fault-of n (parsed f) = refl
 
 module _ (R : Reader) (m : List ℕ) where
   abbrev Refuses : Refusal → Type 0
@@ -137,7 +137,7 @@ module _ (R : Reader) (m : List ℕ) where
   out-malformed t l q = refuses 0 (rw (t .short, t .stated, t .kind, l)) q
 
   -- it was laid out, with these fields; b is whether a type stands twice in the list of its extensions
-  module _ (t : Typed) {h : R .Fields} {f : Hello} {b : Bool} {es : List Extension} (l : R .layout (drop 4 m) ≡ holds f) (p : h ≡ R .places f) (s : es ≡ f .extensions) (w : b ≡ twice es) where
+  module _ (t : Typed) {h : R .Fields} {f : Hello} {b : Bool} {es : List Extension} (l : R .layout (drop 4 m) ≡ parsed f) (p : h ≡ R .places f) (s : es ≡ f .extensions) (w : b ≡ twice es) where
     tested : b ≡ twice (f .extensions)
     tested = w ∙ ap twice s
 

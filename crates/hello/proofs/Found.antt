@@ -106,11 +106,10 @@ behind-length m p d x s =
     let l : length d ≡ p .length = sym (ap length (x .is)) ∙ size-of m (p .at) (p .length) (x .within) in
     let c : length d ≡ 1 + byteAt d 0 = eqb-true (length d) (1 + byteAt d 0) s in
     let n : suc (p .length - 1) ≡ p .length = omega arith in
-    let b : p .at + 1 + (p .length - 1) ≤ length m = omega (arith, x .within) in
     rw (ne-eqb (p .length) 0 (λ z. omega arith))
     (record {
-      within = b;
-      is = rw (← drop-drop 1 (p .at) m) (drop-one (p .length - 1) (drop (p .at) m) ∙ (rw (n, x .is)));
+      within = omega (arith, x .within);
+      is = ap (take (p .length - 1)) (sym (drop-drop 1 (p .at) m)) ∙ drop-one (p .length - 1) (drop (p .at) m) ∙ (rw (n, x .is));
     })
 
 pub ri-points : (m : List ℕ) (i : ℕ) (bytes : List ℕ) → i ≤ length m → wellFormedAt m i ≡ true → indicationOf (listAt m i) ≡ some bytes

@@ -11,7 +11,7 @@ use lib.Seq.{take-all}
 use borrow.Author.Tests.{eqb-true, ltb-false, not-false}
 use Rattle.seqs.specs.Flag.{bit}
 use Rattle.seqs.specs.Cases.{not-both}
-use Rattle.hello.specs.Layout.{Parse, malformed, holds}
+use Rattle.hello.specs.Layout.{Parse, malformed, parsed}
 use Rattle.message.specs.Frame.{bodyOf}
 use Rattle.refusal.specs.Table.{refusalOf}
 use Rattle.refusal.proofs.First.{first-zero, first-within}
@@ -150,8 +150,8 @@ pub record Faulted (r : Reading) (x : Refusal) : Type 0 where
 -- the number of a reading without fields: of what is malformed it is not 0, and of fields 0 is none
 fault-is : (k n : ℕ) (p : Parse Hello) → readingOf k p ≡ fault n → (k ≡ n) × ((n ≡ 0) → isMalformed p ≡ true)
 fault-is k n malformed e = (cc, λ z. refl)
-fault-is zero n (holds f) e = let y : _≡_ {A = ℕ} 0 1 = cc in absurd (omega arith)
-fault-is (suc k) n (holds f) e = let y : suc k ≡ n = cc in (y, λ z. absurd (omega arith))
+fault-is zero n (parsed f) e = let y : _≡_ {A = ℕ} 0 1 = cc in absurd (omega arith)
+fault-is (suc k) n (parsed f) e = let y : suc k ≡ n = cc in (y, λ z. absurd (omega arith))
 
 faulted : (kind : ℕ) (layout : List ℕ → Parse Hello) (wrong : ℕ → Bool) (m : List ℕ) (n : ℕ) (x : Refusal)
     → readingOf (helloNumber kind layout wrong m) (layout (bodyOf m)) ≡ fault n → x ≡ refusalOf n

@@ -6,16 +6,16 @@ use mathlib.Core.List.{List}
 use Prim.Native.Nat.{ℕ}
 use native.Mathlib.Omega.{arith}
 use lib.ListN.{length, drop, length-drop}
-use Rattle.hello.specs.Layout.{Parse, malformed, holds}
+use Rattle.hello.specs.Layout.{Parse, malformed, parsed}
 use Rattle.hello.specs.Extensions.{Extension, listOf, extensionsOf}
 use Rattle.hello.specs.Fields.{isMalformed}
 use Rattle.hello.specs.Cuts.{parsedAt, wellFormedAt, listIn, listAt}
 use Rattle.hello.proofs.Lists.{fuel}
 
-pub list-bytes : (m : List ℕ) (i : ℕ) → wellFormedAt m i ≡ true → extensionsOf (drop i m) ≡ holds (listAt m i)
+pub list-bytes : (m : List ℕ) (i : ℕ) → wellFormedAt m i ≡ true → extensionsOf (drop i m) ≡ parsed (listAt m i)
 unfolding extensionsOf parsedAt wellFormedAt listAt
 list-bytes m i w = fuel (length (drop i m)) (length m) (drop i m) (omega arith) (rw length-drop (omega arith)) ∙ go (listOf (length m) (drop i m)) w
   where
-    go : (p : Parse (List Extension)) → not (isMalformed p) ≡ true → p ≡ holds (listIn p)
+    go : (p : Parse (List Extension)) → not (isMalformed p) ≡ true → p ≡ parsed (listIn p)
     go malformed e = absurd (false≢true e)
-    go (holds es) e = refl
+    go (parsed es) e = refl

@@ -9,7 +9,7 @@ use lib.ListN.{length}
 use Rattle.seqs.specs.Pick.{pick}
 use Rattle.refusal.specs.First.{firstOf}
 use Rattle.message.specs.Frame.{overlong, misstated, kindOf, bodyOf}
-use Rattle.hello.specs.Layout.{Parse, malformed, holds, big, field, counted, vector}
+use Rattle.hello.specs.Layout.{Parse, malformed, parsed, big, field, counted, vector}
 use Rattle.hello.specs.Extensions.{Extension, extensionsOf, twice}
 
 pub record Hello : Type 0 where
@@ -33,7 +33,7 @@ opening l then =
 -- the extensions, once the list of them is known to be whole
 abbrev pub listed : Parse (List Extension) → (List Extension → Parse Hello) → Parse Hello
 listed malformed then = malformed
-listed (holds es) then = then es
+listed (parsed es) then = then es
 
 -- 'Then either the body ends or a 2-byte length covers exactly the rest: extensions'
 unfoldable pub closing : List ℕ → (Bool → List Extension → Parse Hello) → Parse Hello
@@ -55,7 +55,7 @@ clientLayout body =
     (λ methods l₃.
     closing l₃
     (λ block extensions.
-    holds (record { version = big version; random = random; identifier = identifier; suites = suites; methods = methods; block = block; extensions = extensions }))))
+    parsed (record { version = big version; random = random; identifier = identifier; suites = suites; methods = methods; block = block; extensions = extensions }))))
     malformed))
 
 -- 'one suite 2, one method 1'
@@ -69,7 +69,7 @@ serverLayout body =
     (λ methods l₃.
     closing l₃
     (λ block extensions.
-    holds (record { version = big version; random = random; identifier = identifier; suites = suites; methods = methods; block = block; extensions = extensions })))))
+    parsed (record { version = big version; random = random; identifier = identifier; suites = suites; methods = methods; block = block; extensions = extensions })))))
 
 -- 'Which suites and methods appear isn't judged, but for 00 ff in a ClientHello, the signal': TLS_EMPTY_RENEGOTIATION_INFO_SCSV of
 -- RFC 5746, as one whole suite
@@ -89,11 +89,11 @@ wrongServerVersion v = not (eqb v 771)
 -- a test of the fields, where there are fields
 abbrev pub among : Parse Hello → (Hello → Bool) → Bool
 among malformed test = false
-among (holds f) test = test f
+among (parsed f) test = test f
 
 abbrev pub isMalformed : {A : Type 0} → Parse A → Bool
 isMalformed malformed = true
-isMalformed (holds f) = false
+isMalformed (parsed f) = false
 
 -- the number of a message that is to be of the type kind and of that layout, with a version that is not wrong: 10, 1, 2, 3. 'The
 -- wrong type is 1.'
@@ -115,8 +115,8 @@ pub data Reading : Type 0 where
 
 abbrev pub readingOf : ℕ → Parse Hello → Reading
 readingOf n malformed = fault n
-readingOf zero (holds f) = fields f
-readingOf (suc n) (holds f) = fault (suc n)
+readingOf zero (parsed f) = fields f
+readingOf (suc n) (parsed f) = fault (suc n)
 
 -- ClientHello, type 1
 unfoldable pub readClient : List ℕ → Reading

@@ -9,7 +9,7 @@ use mathlib.Core.Option.{none, some}
 use Prim.Native.Nat.{ℕ, _%_, _≤_}
 use lib.ListN.{length}
 use Rattle.seqs.specs.Flag.{bit}
-use Rattle.hello.specs.Layout.{holds, big}
+use Rattle.hello.specs.Layout.{parsed, big}
 use Rattle.hello.specs.Extensions.{Extension, extensionsOf, twice, indicationOf, emsOf, othersOf}
 use Rattle.hello.specs.Fields.{Hello, fields, signalIn, readClient, readServer}
 use Rattle.hello.specs.Places.{part, behind, bytesAt, Points, clientPlaces, serverPlaces}
@@ -21,7 +21,7 @@ use Rattle.hello.specs.declared.server.ServerHello.{ServerHello}
 pub record ExtensionsLearnt (m : List ℕ) (x : Extensions) (b : Bool) (es : List Extension) : Type 0 where
   pub block : x .block ≡ bit b
   -- the bytes of the list are these extensions, and the end of the message
-  pub list : extensionsOf (bytesAt m (x .list)) ≡ holds es
+  pub list : extensionsOf (bytesAt m (x .list)) ≡ parsed es
   pub ends : behind (x .list) ≡ length m
   -- the RI, and its bytes
   pub indicated : (bytes : List ℕ) → indicationOf es ≡ some bytes → x .indicated ≡ 1
