@@ -45,7 +45,7 @@ asked-is m h n w e =
     let i : yes (h .extensions .indicated) ≡ has riKind (l .hello .extensions) = ap (λ (x : ClientHello). yes (x .extensions .indicated)) p ∙ yes-bit (has riKind (l .hello .extensions)) in
     same-asked
     (ap (λ (x : ClientHello). yes (x .signal)) p ∙ yes-bit (signalIn (l .hello .suites)))
-    (ap₂ (λ (x : Bool) (k : ℕ). riOf x (take k (drop (h .extensions .indication .at) m))) i e ∙ ri-said m (l .hello .extensions) (h .extensions .indication) (l .indication))
+    (ap₂ (λ (x : Bool) (k : ℕ). riOf x (take k (drop (h .extensions .indication .at) m))) i e ∙ ri-said m (l .hello .extensions) (h .extensions .indication) (l .extensions .indication))
     (ap (λ (x : ClientHello). yes (x .extensions .ems)) p ∙ yes-bit (emsOf (l .hello .extensions)))
     ∙ sym (ap asked (l .reading))
 
@@ -60,7 +60,7 @@ told-is m h j n w d e =
     let i : yes (h .extensions .indicated) ≡ has riKind (l .hello .extensions) = ap (λ (x : ServerHello). yes (x .extensions .indicated)) p ∙ yes-bit (has riKind (l .hello .extensions)) in
     same-told
     (ap (λ (k : ℕ). take k (drop (h .identifier .at) m)) d ∙ l .identifier .is)
-    (ap₂ (λ (x : Bool) (k : ℕ). riOf x (take k (drop (h .extensions .indication .at) m))) i e ∙ ri-said m (l .hello .extensions) (h .extensions .indication) (l .indication))
+    (ap₂ (λ (x : Bool) (k : ℕ). riOf x (take k (drop (h .extensions .indication .at) m))) i e ∙ ri-said m (l .hello .extensions) (h .extensions .indication) (l .extensions .indication))
     (ap (λ (x : ServerHello). yes (x .extensions .ems)) p ∙ yes-bit (emsOf (l .hello .extensions)))
     (ap (λ (x : ServerHello). yes (x .extensions .others)) p ∙ yes-bit (othersOf (l .hello .extensions)))
     ∙ sym (ap told (l .reading))

@@ -21,7 +21,7 @@ use Rattle.sessions.specs.Book.{Book, badAxle}
 use Rattle.sessions.specs.Keeps.{Keeps}
 use Rattle.sessions.specs.declared.table.Table.{Table}
 use Rattle.hello.specs.Fields.{Hello, Reading, fields, readClient, readServer}
-use Rattle.hello.proofs.Bounds.{client-bounds}
+use Rattle.hello.proofs.Learnt.{client-bounds}
 use Rattle.decision.specs.Connection.{closed, Outcome, forbidden, usesEms, decided, decision}
 use Rattle.decision.specs.Server.{Asked, Original, asked, faulty, faultOf, sessionIn, serverWrong, serverFlag, serverOutcome, serverReply, serverNumber, serverDecision, serverOutput, DecidedBy, ServerDecides}
 use Rattle.decision.specs.Client.{Lent, clientDecision}

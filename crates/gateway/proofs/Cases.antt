@@ -8,7 +8,7 @@ use Rattle.message.specs.Numbers.{byteAt, pairAt, tripleAt}
 use Rattle.message.specs.Frame.{kindOf, bodyOf, overlong, misstated}
 use Rattle.hello.specs.Layout.{big, field, counted, vector}
 use Rattle.hello.specs.Extensions.{shaped, extension, listOf, extensionsOf, has, twice, contentOf, indicationOf}
-use Rattle.hello.specs.Fields.{opening, closing, clientLayout, signalIn, helloNumber, readClient}
+use Rattle.hello.specs.Fields.{opening, closing, clientLayout, serverLayout, signalIn, helloNumber, readClient, readServer}
 use Rattle.hello.specs.Written.{writtenList, writtenBlock}
 use Rattle.decision.specs.Connection.{closed, wrongFirst, decided, decision}
 use Rattle.decision.specs.Reply.{replyList, replyOf}
@@ -18,7 +18,11 @@ use Rattle.log.specs.History.{placeOf, hashed, remembered}
 use Rattle.log.specs.Calls.{wrongBody, misshapen, outOfTurn, isMessage, unchecked, acceptNumber, afterAccept}
 use Rattle.log.specs.Check.{checkNumber, expectedNumber}
 use Rattle.sessions.specs.Book as book
-use Rattle.gateway.specs.Cases.{Cases, numbersFrom, heldBy}
+use Rattle.gateway.specs.Cases.{SmallestHellos, Cases, numbersFrom, heldBy}
+
+smallest-hellos : SmallestHellos
+unfolding firstOf byteAt pairAt tripleAt kindOf bodyOf overlong misstated big field counted vector opening closing clientLayout serverLayout twice helloNumber readClient readServer
+smallest-hellos = record { client-size = refl; client = refl; client-less = refl; server-size = refl; server = refl; server-less = refl }
 
 pub cases : Cases
 unfolding firstOf refusalOf same byteAt pairAt tripleAt kindOf bodyOf overlong misstated big field counted vector shaped extension listOf extensionsOf has twice contentOf indicationOf opening closing clientLayout signalIn helloNumber readClient writtenList writtenBlock closed wrongFirst decided decision replyList replyOf serverWrong serverFlag resumable serverOutcome serverReply serverNumber serverDecision turns isDue look finishedDue placeOf hashed remembered wrongBody misshapen outOfTurn isMessage unchecked acceptNumber afterAccept checkNumber expectedNumber book.many book.oldest book.strike book.isOf book.isName book.isNamed book.fuller book.fullest book.struck book.written book.badAxle book.badName book.badSecret book.storeNumber book.after book.bookFrom numbersFrom heldBy
@@ -27,6 +31,7 @@ cases =
       empty-ri = refl;
       ems = refl;
       ems-with-data = refl;
+      smallest-hellos = smallest-hellos;
       ems-lost = λ s. refl;
       ems-lost-bare = λ x. refl;
       ems-new = refl;

@@ -1,16 +1,16 @@
--- Document 01, 'Readings and cases': every case marked P, as one table under one statement about the definitions that the contracts
--- cite. It is proved by computation in proofs/Cases.antt.
+-- Document 01, 'Readings and cases': every case marked P, and the smallest hellos, as one table under one statement about the
+-- definitions that the contracts cite. It is proved by computation in proofs/Cases.antt.
 -- Assumes nothing.
 use mathlib.Core.Path.{_≡_}
 use mathlib.Core.Bool.{Bool, true, false}
 use mathlib.Core.List.{List, [], _∷_, _++_}
 use mathlib.Core.Option.{none, some}
 use Prim.Native.Nat.{ℕ, zero, suc, _+_}
-use lib.ListN.{length, replicate}
+use lib.ListN.{length, take, replicate}
 use Rattle.hello.specs.Layout.{Parse}
-use Rattle.hello.specs.Layout.Parse.{malformed, holds}
+use Rattle.hello.specs.Layout.Parse.{malformed, parsed}
 use Rattle.hello.specs.Extensions.{Extension, extensionsOf, indicationOf, emsOf}
-use Rattle.hello.specs.Fields.{readClient}
+use Rattle.hello.specs.Fields.{Hello, fields, fault, readClient, readServer}
 use Rattle.sessions.specs.Book.{Call, store, empty, bookFrom, sought}
 use Rattle.sessions.specs.Book as book
 use Rattle.decision.specs.Connection.{fullEms, decided}
@@ -27,13 +27,42 @@ use Rattle.log.specs.Check.{checkNumber, expectedNumber}
 -- what a list of extensions says, where it is one
 abbrev pub inList : {A : Type 0} → (List Extension → A) → Parse (List Extension) → Parse A
 inList f malformed = malformed
-inList f (holds es) = holds (f es)
-
--- ---- the server's decision
+inList f (parsed es) = parsed (f es)
 
 -- a handshake message
 abbrev pub message : ℕ → List ℕ → List ℕ
 message kind body = kind ∷ 0 ∷ 0 ∷ length body ∷ body
+
+-- the bodies of the smallest hellos: 03 03, a random, no identifier, then one suite and one method
+abbrev pub clientBody : List ℕ
+clientBody = (3 ∷ 3 ∷ []) ++ replicate 32 0 ++ (0 ∷ 0 ∷ 2 ∷ 0 ∷ 47 ∷ 1 ∷ 0 ∷ [])
+
+abbrev pub serverBody : List ℕ
+serverBody = (3 ∷ 3 ∷ []) ++ replicate 32 0 ++ (0 ∷ 0 ∷ 47 ∷ 0 ∷ [])
+
+abbrev pub smallest : Hello
+smallest =
+    record {
+      version = 771;
+      random = replicate 32 0;
+      identifier = [];
+      suites = 0 ∷ 47 ∷ [];
+      methods = 0 ∷ [];
+      block = false;
+      extensions = [];
+    }
+
+-- 'Smallest ClientHello message is 45 bytes, smallest ServerHello 42; a byte less is 1.' Not marked P; that no shorter message reads
+-- is said by `ClientBounds` and `ServerBounds` of every message.
+pub record SmallestHellos : Type 0 where
+  pub client-size : length (message 1 clientBody) ≡ 45
+  pub client : readClient (message 1 clientBody) ≡ fields smallest
+  pub client-less : readClient (message 1 (take 40 clientBody)) ≡ fault 1
+  pub server-size : length (message 2 serverBody) ≡ 42
+  pub server : readServer (message 2 serverBody) ≡ fields smallest
+  pub server-less : readServer (message 2 (take 37 serverBody)) ≡ fault 1
+
+-- ---- the server's decision
 
 -- a ClientHello that names a session: 03 03, a random, the identifier 07, one suite, one method, and then the block
 abbrev pub hello : List ℕ → List ℕ
@@ -97,11 +126,12 @@ crowded = stores 1 0 8 ++ stores 2 10 8 ++ stores 3 20 8 ++ stores 4 30 8 ++ sto
 
 pub record Cases : Type 0 where
   -- 'ff 01 00 01 00 is an empty RI.'
-  pub empty-ri : inList indicationOf (extensionsOf (0xff ∷ 0x01 ∷ 0x00 ∷ 0x01 ∷ 0x00 ∷ [])) ≡ holds (some [])
+  pub empty-ri : inList indicationOf (extensionsOf (0xff ∷ 0x01 ∷ 0x00 ∷ 0x01 ∷ 0x00 ∷ [])) ≡ parsed (some [])
   -- '00 17 00 00 is EMS.'
-  pub ems : inList emsOf (extensionsOf (0x00 ∷ 0x17 ∷ 0x00 ∷ 0x00 ∷ [])) ≡ holds true
+  pub ems : inList emsOf (extensionsOf (0x00 ∷ 0x17 ∷ 0x00 ∷ 0x00 ∷ [])) ≡ parsed true
   -- '00 17 00 01 00 is malformed.'
   pub ems-with-data : extensionsOf (0x00 ∷ 0x17 ∷ 0x00 ∷ 0x01 ∷ 0x00 ∷ []) ≡ malformed
+  pub smallest-hellos : SmallestHellos
   -- 'session with EMS, hello without: 6.' With RI whatever the switches are; without, where the indication is not required.
   pub ems-lost : (s : Switches) → serverNumber 1 (readClient riHello) (some (record { ems = true })) (connection 0 0) s room ≡ 6
   pub ems-lost-bare : (x : ℕ) → serverNumber 1 (readClient bareHello) (some (record { ems = true })) (connection 0 0) (legacy x) room ≡ 6

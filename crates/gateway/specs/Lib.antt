@@ -1,3 +1,4 @@
 pub mod Hellos
+pub mod Readings
 pub mod Completion
 pub mod Cases

@@ -13,7 +13,7 @@ use Rattle.seqs.specs.Pick.{pick}
 use Rattle.seqs.specs.Cases.{by-test}
 use Rattle.seqs.specs.Flag.{bit}
 use Rattle.message.specs.Numbers.{pairAt}
-use Rattle.hello.specs.Layout.{Parse, malformed, holds, counted}
+use Rattle.hello.specs.Layout.{Parse, malformed, parsed, counted}
 use Rattle.hello.specs.Extensions.{Extension, riKind, emsKind, has, othersOf, extensionsOf}
 use Rattle.hello.specs.Fields.{Hello, isMalformed, listed, closing}
 use Rattle.hello.specs.Places.{part, partOf, bytesPart, sizeOf, extensionsAt}
@@ -86,7 +86,7 @@ module _ (then : Bool → List Extension → Parse Hello) (m : List ℕ) (at : �
         where
           go : (p : Parse (List Extension)) → not (isMalformed p) ≡ false → listed p (λ es. then true es) ≡ malformed
           go malformed q = refl
-          go (holds es) q = absurd (eqb-false 1 0 refl (cc))
+          go (parsed es) q = absurd (eqb-false 1 0 refl (cc))
 
       pub closing-yes : wellFormedAt m (at + 2) ≡ true → closing (drop at m) then ≡ then true (listAt m (at + 2))
       unfolding wellFormedAt listAt
@@ -94,7 +94,7 @@ module _ (then : Bool → List Extension → Parse Hello) (m : List ℕ) (at : �
         where
           go : (p : Parse (List Extension)) → not (isMalformed p) ≡ true → listed p (λ es. then true es) ≡ then true (listIn p)
           go malformed q = absurd (eqb-false 1 0 refl (cc))
-          go (holds es) q = refl
+          go (parsed es) q = refl
 
 -- what is said of a list, from the answers of the walks over it
 pub described-is : (m : List ℕ) (b : Bool) (at : ℕ) (f₀ f₁ f₂ f₃ : ℕ) (ri ems indication : Part) {o : Bool}

@@ -16,8 +16,6 @@ use Rattle.hello.specs.Extensions.{Extension, riKind, shaped, has, conte
 use Rattle.hello.specs.Places.{part, behind, Points, partOf, bytesPart}
 use Rattle.hello.specs.Cuts.{wellFormedAt, listAt}
 use Rattle.hello.specs.declared.parts.Part.{Part}
-use Rattle.hello.specs.declared.client.ClientRead.the-variants as client
-use Rattle.hello.specs.declared.server.ServerRead.the-variants as server
 use Rattle.hello.proofs.Lists.{step, list-end, size-of}
 
 -- the n bytes at a place
@@ -50,6 +48,19 @@ ri-none es h = rw (content-none riKind es h)
 pub ri-some : (es : List Extension) → has riKind es ≡ true → (bytes : List ℕ) × (indicationOf es ≡ some bytes)
 unfolding indicationOf
 ri-some es h = let r = content-some riKind es h in (drop 1 (r .0), rw (r .1))
+
+-- there are bytes exactly where there is an RI
+pub ri-there : (es : List Extension) (bytes : List ℕ) → indicationOf es ≡ some bytes → has riKind es ≡ true
+ri-there es bytes e =
+    by-test (has riKind es)
+    (λ q. q)
+    (λ q. let n = ri-none es q in let z : _≡_ {A = ℕ} 0 1 = cc in absurd (omega arith))
+
+pub ri-not-there : (es : List Extension) → indicationOf es ≡ none → has riKind es ≡ false
+ri-not-there es e =
+    by-test (has riKind es)
+    (λ q. let r = ri-some es q in let n = r .1 in let z : _≡_ {A = ℕ} 0 1 = cc in absurd (omega arith))
+    (λ q. q)
 
 module _ (m : List ℕ) (t : ℕ) where
   nothing : {P : Type 0} (i : ℕ) (d : List ℕ) → length m ≤ i → contentOf t (listAt m i) ≡ some d → P
@@ -95,30 +106,24 @@ behind-length m p d x s =
     let l : length d ≡ p .length = sym (ap length (x .is)) ∙ size-of m (p .at) (p .length) (x .within) in
     let c : length d ≡ 1 + byteAt d 0 = eqb-true (length d) (1 + byteAt d 0) s in
     let n : suc (p .length - 1) ≡ p .length = omega arith in
-    let b : p .at + 1 + (p .length - 1) ≤ length m = omega (arith, x .within) in
     rw (ne-eqb (p .length) 0 (λ z. omega arith))
     (record {
-      within = b;
-      is = rw (← drop-drop 1 (p .at) m) (drop-one (p .length - 1) (drop (p .at) m) ∙ (rw (n, x .is)));
+      within = omega (arith, x .within);
+      is = ap (take (p .length - 1)) (sym (drop-drop 1 (p .at) m)) ∙ drop-one (p .length - 1) (drop (p .at) m) ∙ (rw (n, x .is));
     })
 
 pub ri-points : (m : List ℕ) (i : ℕ) (bytes : List ℕ) → i ≤ length m → wellFormedAt m i ≡ true → indicationOf (listAt m i) ≡ some bytes
     → Points m (bytesPart (partOf riKind i (listAt m i))) bytes
 unfolding indicationOf
 ri-points m i bytes h w e =
-    by-test (has riKind (listAt m i))
-    (λ q.
-    let r = content-some riKind (listAt m i) q in
+    let r = content-some riKind (listAt m i) (ri-there (listAt m i) bytes e) in
     let f = found m riKind i (r .0) h w (r .1) in
     let x : _≡_ {A = Option (List ℕ)} (some (drop 1 (r .0))) (some bytes) = rw (r .1) at e in
     let y : drop 1 (r .0) ≡ bytes = cc in
-    rw (← y) (behind-length m _ (r .0) (f .0) (f .1)))
-    (λ q.
-    let x : _≡_ {A = Option (List ℕ)} none (some bytes) = rw (content-none riKind (listAt m i) q) at e in
-    let z : _≡_ {A = ℕ} 0 1 = cc in absurd (omega arith))
+    rw (← y) (behind-length m _ (r .0) (f .0) (f .1))
 
 -- where there is no RI, an empty part at place 0 stands for it
-nowhere : (t at : ℕ) (es : List Extension) → has t es ≡ false → partOf t at es ≡ part 0 0
+pub nowhere : (t at : ℕ) (es : List Extension) → has t es ≡ false → partOf t at es ≡ part 0 0
 unfolding has partOf
 nowhere t at [] h = refl
 nowhere t at (e ∷ es) h =

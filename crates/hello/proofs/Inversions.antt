@@ -12,7 +12,7 @@ use borrow.Author.Tests.{leb-true, leb-false, eqb-true, eqb-false}
 use Rattle.seqs.specs.Pick.{pick}
 use Rattle.seqs.specs.Cases.{by-test}
 use Rattle.message.specs.Numbers.{pairAt}
-use Rattle.hello.specs.Layout.{Parse, malformed, holds, big, field, counted, vector}
+use Rattle.hello.specs.Layout.{Parse, malformed, parsed, big, field, counted, vector}
 use Rattle.hello.specs.Extensions.{Extension}
 use Rattle.hello.specs.Fields.{Hello, opening, closing}
 use Rattle.hello.specs.Places.{listPlace}
@@ -22,31 +22,31 @@ use Rattle.hello.proofs.Lists.{size-of, whole-end, list-end}
 use Rattle.hello.proofs.Closings.{closing-none, closing-short, closing-other, closing-bad, closing-yes}
 
 -- what is malformed holds nothing
-pub no-holds : {A P : Type 0} {p : Parse A} {x : A} → p ≡ malformed → p ≡ holds x → P
-no-holds e h = let z : _≡_ {A = ℕ} 0 1 = cc in absurd (omega arith)
+pub no-parsed : {A P : Type 0} {p : Parse A} {x : A} → p ≡ malformed → p ≡ parsed x → P
+no-parsed e h = let z : _≡_ {A = ℕ} 0 1 = cc in absurd (omega arith)
 
 module _ {A : Type 0} (x : A) (then : List ℕ → List ℕ → Parse A) where
-  pub field-at : (n : ℕ) (l : List ℕ) → field n l then ≡ holds x → (n ≤ length l) × (then (take n l) (drop n l) ≡ holds x)
+  pub field-at : (n : ℕ) (l : List ℕ) → field n l then ≡ parsed x → (n ≤ length l) × (then (take n l) (drop n l) ≡ parsed x)
   field-at n l e =
       by-test (leb n (length l))
       (λ p. (leb-true _ _ p, sym (field-yes then n l (leb-true _ _ p)) ∙ e))
-      (λ p. no-holds (field-no then n l (leb-false _ _ p)) e)
+      (λ p. no-parsed (field-no then n l (leb-false _ _ p)) e)
 
   -- a counted field at a place
-  counted-at : (w : ℕ) (m : List ℕ) (at : ℕ) → at ≤ length m → counted w (drop at m) then ≡ holds x
-      → (n : ℕ) × (at + w + n ≤ length m) × (then (take n (drop (at + w) m)) (drop (at + w + n) m) ≡ holds x)
+  counted-at : (w : ℕ) (m : List ℕ) (at : ℕ) → at ≤ length m → counted w (drop at m) then ≡ parsed x
+      → (n : ℕ) × (at + w + n ≤ length m) × (then (take n (drop (at + w) m)) (drop (at + w + n) m) ≡ parsed x)
   counted-at w m at h e =
       by-test (leb (at + w) (length m))
       (λ p.
       let n = big (take w (drop at m)) in
       by-test (leb (at + w + n) (length m))
       (λ q. (n, leb-true _ _ q, sym (counted-yes then w m at n refl (leb-true _ _ p) (leb-true _ _ q)) ∙ e))
-      (λ q. no-holds (counted-no then w m at n refl (leb-true _ _ p) (leb-false _ _ q)) e))
-      (λ p. no-holds (counted-short then w m at (omega (arith, leb-false (at + w) (length m) p))) e)
+      (λ q. no-parsed (counted-no then w m at n refl (leb-true _ _ p) (leb-false _ _ q)) e))
+      (λ p. no-parsed (counted-short then w m at (omega (arith, leb-false (at + w) (length m) p))) e)
 
 pub vector-at : {A : Type 0} (x : A) (then : List ℕ → List ℕ → Parse A) (w low high : ℕ) (m : List ℕ) (at : ℕ)
-    → at ≤ length m → vector w low high (drop at m) then ≡ holds x
-    → (n : ℕ) × (at + w + n ≤ length m) × (low ≤ n) × (n ≤ high) × (then (take n (drop (at + w) m)) (drop (at + w + n) m) ≡ holds x)
+    → at ≤ length m → vector w low high (drop at m) then ≡ parsed x
+    → (n : ℕ) × (at + w + n ≤ length m) × (low ≤ n) × (n ≤ high) × (then (take n (drop (at + w) m)) (drop (at + w + n) m) ≡ parsed x)
 unfolding vector
 vector-at x then w low high m at h e =
     let k = counted-at x (λ d r. pick (leb low (length d)) (pick (leb (length d) high) (then d r) malformed) malformed) w m at h e in
@@ -56,11 +56,11 @@ vector-at x then w low high m at h e =
     (λ p.
     by-test (leb n high)
     (λ q. (n, k .1, leb-true _ _ p, leb-true _ _ q, rw (l, p, q) at (k .2)))
-    (λ q. no-holds refl (rw (l, p, q) at (k .2))))
-    (λ p. no-holds refl (rw (l, p) at (k .2)))
+    (λ q. no-parsed refl (rw (l, p, q) at (k .2))))
+    (λ p. no-parsed refl (rw (l, p) at (k .2)))
 
-pub opening-at : (f : Hello) (then : List ℕ → List ℕ → List ℕ → List ℕ → Parse Hello) (m : List ℕ) → 4 ≤ length m → opening (drop 4 m) then ≡ holds f
-    → (n : ℕ) × (39 + n ≤ length m) × (n ≤ 32) × (then (take 2 (drop 4 m)) (take 32 (drop 6 m)) (take n (drop 39 m)) (drop (39 + n) m) ≡ holds f)
+pub opening-at : (f : Hello) (then : List ℕ → List ℕ → List ℕ → List ℕ → Parse Hello) (m : List ℕ) → 4 ≤ length m → opening (drop 4 m) then ≡ parsed f
+    → (n : ℕ) × (39 + n ≤ length m) × (n ≤ 32) × (then (take 2 (drop 4 m)) (take 32 (drop 6 m)) (take n (drop 39 m)) (drop (39 + n) m) ≡ parsed f)
 unfolding opening
 opening-at f then m h e =
     let a = field-at f _ 2 (drop 4 m) e in
@@ -69,8 +69,8 @@ opening-at f then m h e =
     let v = vector-at f _ 1 0 32 m 38 l (rw drop-drop at (b .1)) in
     (v .0, v .1, v .3, v .4)
 
-pub closing-at : (f : Hello) (then : Bool → List Extension → Parse Hello) (m : List ℕ) (at : ℕ) → at ≤ length m → closing (drop at m) then ≡ holds f
-    → (b : Bool) × (listPlace b at ≤ length m) × (wellFormedAt m (listPlace b at) ≡ true) × (then b (listAt m (listPlace b at)) ≡ holds f)
+pub closing-at : (f : Hello) (then : Bool → List Extension → Parse Hello) (m : List ℕ) (at : ℕ) → at ≤ length m → closing (drop at m) then ≡ parsed f
+    → (b : Bool) × (listPlace b at ≤ length m) × (wellFormedAt m (listPlace b at) ≡ true) × (then b (listAt m (listPlace b at)) ≡ parsed f)
 closing-at f then m at h e =
     by-test (leb (length m) at)
     (λ p.
@@ -86,6 +86,6 @@ closing-at f then m at h e =
     let y = eqb-true _ _ u in
     by-test (wellFormedAt m (at + 2))
     (λ v. (true, r, v, sym (closing-yes then m at (pairAt m at) refl r y v) ∙ e))
-    (λ v. no-holds (closing-bad then m at (pairAt m at) refl r y v) e))
-    (λ u. no-holds (closing-other then m at (pairAt m at) refl r (eqb-false _ _ u)) e))
-    (λ q. no-holds (closing-short then m at s (omega (arith, leb-false (at + 2) (length m) q))) e))
+    (λ v. no-parsed (closing-bad then m at (pairAt m at) refl r y v) e))
+    (λ u. no-parsed (closing-other then m at (pairAt m at) refl r (eqb-false _ _ u)) e))
+    (λ q. no-parsed (closing-short then m at s (omega (arith, leb-false (at + 2) (length m) q))) e))

@@ -7,47 +7,53 @@ use Prim.Native.Nat.{ℕ, zero, suc, _+_, _%_, _≤_}
 use native.Mathlib.Omega.{arith}
 use lib.Dec.{eqb}
 use lib.ListN.{length, take, drop, length-drop}
-use borrow.Author.Tests.{eqb-true}
+use borrow.Author.Tests.{eqb-true, ltb-false}
 use lib.Seq.{drop-drop}
 use Rattle.seqs.specs.Pick.{pick}
-use Rattle.seqs.specs.Cases.{by-test}
-use Rattle.hello.specs.Layout.{Parse, malformed, holds, big}
-use Rattle.hello.specs.Extensions.{Extension}
-use Rattle.message.specs.Frame.{bodyOf, overlong, misstated}
-use Rattle.refusal.specs.First.{firstOf}
+use Rattle.hello.specs.Layout.{Parse, malformed, parsed, big}
+use Rattle.hello.specs.Extensions.{Extension, twice}
+use Rattle.message.specs.Frame.{bodyOf, overlong}
+use Rattle.refusal.proofs.First.{first-zero}
 use Rattle.hello.specs.Fields.{Hello, fields, closing, helloNumber, readingOf, clientLayout, serverLayout}
 use Rattle.hello.specs.Places.{listPlace}
 use Rattle.hello.specs.Cuts.{wellFormedAt, listAt}
-use Rattle.hello.specs.declared.client.ClientRead.the-variants as client
-use Rattle.hello.specs.declared.server.ServerRead.the-variants as server
 use Rattle.message.proofs.Frames.{stated-long}
 use Rattle.hello.proofs.Lists.{size-of}
-use Rattle.hello.proofs.Inversions.{no-holds, field-at, vector-at, opening-at, closing-at}
+use Rattle.hello.proofs.Inversions.{no-parsed, field-at, vector-at, opening-at, closing-at}
 
-pub reading-zero : (n : ℕ) (p : Parse Hello) (f : Hello) → readingOf n p ≡ fields f → (n ≡ 0) × (p ≡ holds f)
+reading-zero : (n : ℕ) (p : Parse Hello) (f : Hello) → readingOf n p ≡ fields f → (n ≡ 0) × (p ≡ parsed f)
 reading-zero n malformed f e = let z : _≡_ {A = ℕ} 0 1 = cc in absurd (omega arith)
-reading-zero zero (holds g) f e = (refl, cc)
-reading-zero (suc n) (holds g) f e = let z : _≡_ {A = ℕ} 0 1 = cc in absurd (omega arith)
+reading-zero zero (parsed g) f e = (refl, cc)
+reading-zero (suc n) (parsed g) f e = let z : _≡_ {A = ℕ} 0 1 = cc in absurd (omega arith)
 
-pub holds-same : {A : Type 0} {x y : A} → holds x ≡ holds y → y ≡ x
-holds-same e = cc
+pub parsed-same : {A : Type 0} {x y : A} → parsed x ≡ parsed y → y ≡ x
+parsed-same e = cc
 
--- fields are those of the layout, in a message that is long enough to have a header
-pub read-layout : (kind : ℕ) (layout : List ℕ → Parse Hello) (wrong : ℕ → Bool) (m : List ℕ) (f : Hello)
-    → readingOf (helloNumber kind layout wrong m) (layout (bodyOf m)) ≡ fields f → (4 ≤ length m) × (layout (drop 4 m) ≡ holds f)
-unfolding helloNumber firstOf bodyOf
-read-layout kind layout wrong m f e =
+-- fields stand only where no test holds, in a message that is long enough to have a header
+pub record Clean (layout : List ℕ → Parse Hello) (wrong : ℕ → Bool) (m : List ℕ) (f : Hello) : Type 0 where
+  pub shortest : 4 ≤ length m
+  pub longest : length m ≤ 16388
+  pub laid : layout (drop 4 m) ≡ parsed f
+  pub differ : twice (f .extensions) ≡ false
+  pub version : wrong (f .version) ≡ false
+
+pub clean : (kind : ℕ) (layout : List ℕ → Parse Hello) (wrong : ℕ → Bool) (m : List ℕ) (f : Hello)
+    → readingOf (helloNumber kind layout wrong m) (layout (bodyOf m)) ≡ fields f → Clean layout wrong m f
+unfolding helloNumber bodyOf overlong
+clean kind layout wrong m f e =
     let r = reading-zero (helloNumber kind layout wrong m) (layout (bodyOf m)) f e in
-    by-test (overlong m)
-    (λ p. let z : _≡_ {A = ℕ} 10 0 = rw p at (r .0) in absurd (omega arith))
-    (λ p.
-    by-test (misstated m)
-    (λ q. let z : _≡_ {A = ℕ} 1 0 = rw (p, q) at (r .0) in absurd (omega arith))
-    (λ q. (stated-long m q, r .1)))
+    let z = first-zero _ refl (r .0) in
+    record {
+      shortest = stated-long m (z .1 .0);
+      longest = ltb-false 16388 (length m) (z .0);
+      laid = r .1;
+      differ = rw (r .1) at (z .1 .1 .1 .1 .0);
+      version = rw (r .1) at (z .1 .1 .1 .1 .1 .0);
+    }
 
-pick-holds : {A : Type 0} (b : Bool) (x : Parse A) (y : A) → pick b x malformed ≡ holds y → (b ≡ true) × (x ≡ holds y)
-pick-holds true x y e = (refl, e)
-pick-holds false x y e = no-holds refl e
+pick-parsed : {A : Type 0} (b : Bool) (x : Parse A) (y : A) → pick b x malformed ≡ parsed y → (b ≡ true) × (x ≡ parsed y)
+pick-parsed true x y e = (refl, e)
+pick-parsed false x y e = no-parsed refl e
 
 -- a hello that was laid out, with its parts
 pub record ClientParts (m : List ℕ) (f : Hello) : Type 0 where
@@ -74,12 +80,12 @@ pub record ClientParts (m : List ℕ) (f : Hello) : Type 0 where
     extensions = listAt m (listPlace b (39 + i + 2 + s + 1 + t));
   }
 
-pub client-parts : (m : List ℕ) (f : Hello) → 4 ≤ length m → clientLayout (drop 4 m) ≡ holds f → ClientParts m f
+pub client-parts : (m : List ℕ) (f : Hello) → 4 ≤ length m → clientLayout (drop 4 m) ≡ parsed f → ClientParts m f
 unfolding clientLayout
 client-parts m f h e =
     let o = opening-at f _ m h e in
     let v = vector-at f _ 2 2 65534 m (39 + o .0) (o .1) (o .3) in
-    let p = pick-holds (eqb (length (take (v .0) (drop (39 + o .0 + 2) m)) % 2) 0) _ f (v .4) in
+    let p = pick-parsed (eqb (length (take (v .0) (drop (39 + o .0 + 2) m)) % 2) 0) _ f (v .4) in
     let n : length (take (v .0) (drop (39 + o .0 + 2) m)) ≡ v .0 = size-of m (39 + o .0 + 2) (v .0) (v .1) in
     let w = vector-at f _ 1 1 255 m (39 + o .0 + 2 + v .0) (v .1) (p .1) in
     let c = closing-at f _ m (39 + o .0 + 2 + v .0 + 1 + w .0) (w .1) (w .4) in
@@ -97,7 +103,7 @@ client-parts m f h e =
       whole = w .1;
       list = c .1;
       formed = c .2;
-      is = holds-same (c .3);
+      is = parsed-same (c .3);
     }
 
 -- of a ServerHello, the fields before the extension block are known by the identifier's length i
@@ -117,9 +123,9 @@ pub record ServerFront (m : List ℕ) (f : Hello) : Type 0 where
   pub i : ℕ
   pub short : i ≤ 32
   pub whole : 39 + i + 3 ≤ length m
-  pub tail : closing (drop (39 + i + 3) m) (λ b es. holds (serverFields m i b es)) ≡ holds f
+  pub tail : closing (drop (39 + i + 3) m) (λ b es. parsed (serverFields m i b es)) ≡ parsed f
 
-pub server-front : (m : List ℕ) (f : Hello) → 4 ≤ length m → serverLayout (drop 4 m) ≡ holds f → ServerFront m f
+pub server-front : (m : List ℕ) (f : Hello) → 4 ≤ length m → serverLayout (drop 4 m) ≡ parsed f → ServerFront m f
 unfolding serverLayout
 server-front m f h e =
     let o = opening-at f _ m h e in
@@ -138,4 +144,4 @@ pub record ServerParts (m : List ℕ) (f : Hello) (p : ServerFront m f) : Type 0
 pub server-parts : (m : List ℕ) (f : Hello) (p : ServerFront m f) → ServerParts m f p
 server-parts m f p =
     let c = closing-at f _ m (39 + p .i + 3) (p .whole) (p .tail) in
-    record { b = c .0; list = c .1; formed = c .2; is = holds-same (c .3) }
+    record { b = c .0; list = c .1; formed = c .2; is = parsed-same (c .3) }

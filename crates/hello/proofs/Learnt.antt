@@ -1,42 +1,61 @@
 -- What specs/Learnt.antt says a caller learns of a hello that was read.
 -- Assumes nothing.
-use mathlib.Core.Path.{_≡_, refl, _∙_}
+use mathlib.Core.Path.{_≡_, refl, _∙_, ap}
 use mathlib.Core.Bool.{Bool, true}
 use mathlib.Core.List.{List}
 use mathlib.Core.Option.{some}
-use Prim.Native.Nat.{ℕ, zero, suc, _+_, _≤_}
+use Prim.Native.Nat.{ℕ, zero, suc, _+_, _-_, _≤_}
 use native.Mathlib.Omega.{arith}
-use lib.Dec.{eqb}
-use lib.ListN.{length, take, drop}
-use Rattle.seqs.specs.Cases.{by-test}
-use Rattle.hello.specs.Layout.{Parse, malformed, holds}
-use Rattle.message.specs.Frame.{kindOf, bodyOf, overlong, misstated}
-use Rattle.refusal.specs.First.{firstOf}
+use lib.ListN.{length, take, drop, length-drop}
+use lib.Seq.{take-all}
+use borrow.Author.Tests.{eqb-true, ltb-false, not-false}
+use Rattle.seqs.specs.Flag.{bit}
+use Rattle.seqs.specs.Cases.{not-both}
+use Rattle.hello.specs.Layout.{Parse, malformed, parsed}
+use Rattle.message.specs.Frame.{bodyOf}
 use Rattle.refusal.specs.Table.{refusalOf}
+use Rattle.refusal.proofs.First.{first-zero, first-within}
 use Rattle.refusal.specs.declared.Refusal.{Refusal}
-use Rattle.hello.specs.Fields.{Hello, Reading, fields, fault, isMalformed, helloNumber, readingOf, clientLayout, serverLayout, clientVersion, serverVersion, readClient, readServer}
-use Rattle.hello.specs.Places.{sizeOf, listPlace, extensionsAt, clientPlaces, serverPlaces, clientAnswer, serverAnswer}
+use Rattle.hello.specs.Extensions.{riKind}
+use Rattle.hello.specs.Fields.{Hello, Reading, fields, fault, isMalformed, helloNumber, readingOf, clientLayout, serverLayout, wrongClientVersion, wrongServerVersion, readClient, readServer}
+use Rattle.hello.specs.Places.{sizeOf, bytesPart, listPlace, extensionsAt, clientPlaces, serverPlaces, clientAnswer, serverAnswer}
 use Rattle.hello.specs.Cuts.{wellFormedAt, listAt}
-use Rattle.hello.specs.Learnt.{ClientLearnt, ServerLearnt}
+use Rattle.hello.specs.Learnt.{ExtensionsLearnt, ClientBounds, ServerBounds, ClientLearnt, ServerLearnt}
 use Rattle.hello.specs.declared.client.ClientHello.{ClientHello}
 use Rattle.hello.specs.declared.client.ClientRead.the-variants as client
 use Rattle.hello.specs.declared.server.ServerHello.{ServerHello}
 use Rattle.hello.specs.declared.server.ServerRead.the-variants as server
 use Rattle.hello.proofs.Lists.{size-of}
 use Rattle.hello.proofs.Closings.{list-size}
-use Rattle.hello.proofs.Found.{points-at, ri-points, ri-bounded}
-use Rattle.hello.proofs.Laid.{read-layout, client-parts, server-front, server-parts}
+use Rattle.hello.proofs.Found.{points-at, ri-there, ri-not-there, ri-points, nowhere, ri-bounded}
+use Rattle.hello.proofs.ListBytes.{list-bytes}
+use Rattle.hello.proofs.Laid.{clean, client-parts, server-front, server-parts}
 
--- a list of extensions ends where the message ends
-list-ends : (m : List ℕ) (i : ℕ) → i ≤ length m → wellFormedAt m i ≡ true → i + sizeOf (listAt m i) ≡ length m
-list-ends m i h w = rw (list-size m i h w) (omega arith)
+-- what is said of the extensions from place i of a message on
+extensions-learnt : (m : List ℕ) (block : Bool) (i : ℕ) → i ≤ length m → wellFormedAt m i ≡ true
+    → ExtensionsLearnt m (extensionsAt block i (listAt m i)) block (listAt m i)
+unfolding extensionsAt bytesPart
+extensions-learnt m block i h w =
+    let es = listAt m i in
+    let s : sizeOf es ≡ length m - i = list-size m i h w in
+    record {
+      block = refl;
+      list = rw (s, take-all (length m - i) (drop i m) (omega (arith, length-drop i m))) (list-bytes m i w);
+      ends = rw s (omega arith);
+      indicated = λ bytes e. ap bit (ri-there es bytes e);
+      indication = λ bytes e. ri-points m i bytes h w e;
+      absent = λ e. let n = ri-not-there es e in (ap bit n, ap bytesPart (nowhere riKind i es n));
+      bounded = ri-bounded m i h w;
+      ems = refl;
+      others = refl;
+    }
 
 -- the places of the fields that were laid out
 client-fields : (m : List ℕ) (h : ClientHello) (f : Hello) → readClient m ≡ fields f → h ≡ clientPlaces f → ClientLearnt m h
-unfolding readClient clientPlaces extensionsAt
+unfolding readClient clientPlaces
 client-fields m h f e q =
-    let r = read-layout 1 clientLayout clientVersion m f e in
-    let p = client-parts m f (r .0) (r .1) in
+    let r = clean 1 clientLayout wrongClientVersion m f e in
+    let p = client-parts m f (r .shortest) (r .laid) in
     let l : length (take (p .i) (drop 39 m)) ≡ p .i = size-of m 39 (p .i) (omega (arith, p .whole)) in
     let n : length (take (p .s) (drop (39 + p .i + 2) m)) ≡ p .s = size-of m (39 + p .i + 2) (p .s) (omega (arith, p .whole)) in
     let k : length (take (p .t) (drop (39 + p .i + 2 + p .s + 1) m)) ≡ p .t = size-of m (39 + p .i + 2 + p .s + 1) (p .t) (p .whole) in
@@ -44,34 +63,64 @@ client-fields m h f e q =
       hello = f;
       reading = e;
       places = q;
+      version = ap (λ (x : ClientHello). x .version) q;
       random = rw (q, p .is) (record { within = omega (arith, p .whole); is = refl });
       identifier = rw (q, p .is) (points-at m 39 (p .i) (omega (arith, p .whole)));
       suites = rw (q, p .is, l) (points-at m (39 + p .i + 2) (p .s) (omega (arith, p .whole)));
       methods = rw (q, p .is, l, n) (points-at m (39 + p .i + 2 + p .s + 1) (p .t) (p .whole));
-      bounded = rw (q, p .is, l, n, k) (ri-bounded m (listPlace (p .b) (39 + p .i + 2 + p .s + 1 + p .t)) (p .list) (p .formed));
-      indication = rw (q, p .is, l, n, k) (λ bytes x. ri-points m (listPlace (p .b) (39 + p .i + 2 + p .s + 1 + p .t)) bytes (p .list) (p .formed) x);
-      list = rw (q, p .is, l, n, k) (list-ends m (listPlace (p .b) (39 + p .i + 2 + p .s + 1 + p .t)) (p .list) (p .formed));
-      short = rw (p .is, l) (p .short);
+      signal = ap (λ (x : ClientHello). x .signal) q;
+      extensions = rw (q, p .is, l, n, k) (extensions-learnt m (p .b) (listPlace (p .b) (39 + p .i + 2 + p .s + 1 + p .t)) (p .list) (p .formed));
+      bounds = record {
+        shortest = omega (arith, p .whole, p .suites-from, p .methods-from);
+        longest = r .longest;
+        version = ltb-false (f .version) 771 (r .version);
+        random = rw (p .is) (size-of m 6 32 (omega (arith, p .whole)));
+        identifier = rw (p .is, l) (p .short);
+        suites-from = rw (p .is, n) (p .suites-from);
+        suites-to = rw (p .is, n) (p .suites-to);
+        suites-even = rw (p .is, n) (p .even);
+        methods-from = rw (p .is, k) (p .methods-from);
+        methods-to = rw (p .is, k) (p .methods-to);
+        types-differ = r .differ;
+      };
     }
 
 server-fields : (m : List ℕ) (h : ServerHello) (f : Hello) → readServer m ≡ fields f → h ≡ serverPlaces f → ServerLearnt m h
-unfolding readServer serverPlaces extensionsAt
+unfolding readServer serverPlaces
 server-fields m h f e q =
-    let r = read-layout 2 serverLayout serverVersion m f e in
-    let g = server-front m f (r .0) (r .1) in
+    let r = clean 2 serverLayout wrongServerVersion m f e in
+    let g = server-front m f (r .shortest) (r .laid) in
     let p = server-parts m f g in
     let l : length (take (g .i) (drop 39 m)) ≡ g .i = size-of m 39 (g .i) (omega (arith, g .whole)) in
     record {
       hello = f;
       reading = e;
       places = q;
+      version = ap (λ (x : ServerHello). x .version) q;
       random = rw (q, p .is) (record { within = omega (arith, g .whole); is = refl });
       identifier = rw (q, p .is) (points-at m 39 (g .i) (omega (arith, g .whole)));
-      bounded = rw (q, p .is, l) (ri-bounded m (listPlace (p .b) (39 + g .i + 3)) (p .list) (p .formed));
-      indication = rw (q, p .is, l) (λ bytes x. ri-points m (listPlace (p .b) (39 + g .i + 3)) bytes (p .list) (p .formed) x);
-      list = rw (q, p .is, l) (list-ends m (listPlace (p .b) (39 + g .i + 3)) (p .list) (p .formed));
-      short = rw (p .is, l) (g .short);
+      suite = ap (λ (x : ServerHello). x .suite) q;
+      compression = ap (λ (x : ServerHello). x .compression) q;
+      extensions = rw (q, p .is, l) (extensions-learnt m (p .b) (listPlace (p .b) (39 + g .i + 3)) (p .list) (p .formed));
+      bounds = record {
+        shortest = omega (arith, g .whole);
+        longest = r .longest;
+        version = eqb-true (f .version) 771 (not-false _ (r .version));
+        random = rw (p .is) (size-of m 6 32 (omega (arith, g .whole)));
+        identifier = rw (p .is, l) (g .short);
+        suite = rw (p .is) (size-of m (39 + g .i) 2 (omega (arith, g .whole)));
+        compression = rw (p .is) (size-of m (39 + g .i + 2) 1 (omega (arith, g .whole)));
+        types-differ = r .differ;
+      };
     }
+
+pub client-bounds : (m : List ℕ) (f : Hello) → readClient m ≡ fields f → ClientBounds m f
+unfolding client-fields
+client-bounds m f e = client-fields m (clientPlaces f) f e refl .bounds
+
+pub server-bounds : (m : List ℕ) (f : Hello) → readServer m ≡ fields f → ServerBounds m f
+unfolding server-fields
+server-bounds m f e = server-fields m (serverPlaces f) f e refl .bounds
 
 -- from the answer of the reader
 pub client-learnt : (m : List ℕ) (h : ClientHello) → client.Read h ≡ clientAnswer (readClient m) → ClientLearnt m h
@@ -90,35 +139,33 @@ server-learnt m h e = go (readServer m) refl e
     go (fields f) p q = server-fields m h f p (cc)
     go (fault n) p q = let z : _≡_ {A = ℕ} 0 1 = cc in absurd (omega arith)
 
--- a fault has a number: of what is malformed it is not 0, and of fields 0 is none
-fault-is : (k n : ℕ) (p : Parse Hello) → readingOf k p ≡ fault n → (k ≡ n) × ((n ≡ 0) → isMalformed p ≡ true)
-fault-is k n malformed e = (cc, λ z. refl)
-fault-is zero n (holds f) e = let y : _≡_ {A = ℕ} 0 1 = cc in absurd (omega arith)
-fault-is (suc k) n (holds f) e = let y : suc k ≡ n = cc in (y, λ z. absurd (omega arith))
-
-fault-number : (kind : ℕ) (layout : List ℕ → Parse Hello) (wrong : ℕ → Bool) (m : List ℕ) (n : ℕ)
-    → readingOf (helloNumber kind layout wrong m) (layout (bodyOf m)) ≡ fault n → n ≡ 0 → ⊥
-unfolding helloNumber firstOf
-fault-number kind layout wrong m n e z =
-    let d = fault-is (helloNumber kind layout wrong m) n (layout (bodyOf m)) e in
-    let b : isMalformed (layout (bodyOf m)) ≡ true = d .1 z in
-    let q : helloNumber kind layout wrong m ≡ 0 = d .0 ∙ z in
-    by-test (overlong m)
-    (λ p. let y : _≡_ {A = ℕ} 10 0 = rw p at q in omega arith)
-    (λ p.
-    by-test (misstated m)
-    (λ r. let y : _≡_ {A = ℕ} 1 0 = rw (p, r) at q in omega arith)
-    (λ r.
-    by-test (eqb (kindOf m) kind)
-    (λ s. let y : _≡_ {A = ℕ} 1 0 = rw (p, r, s, b) at q in omega arith)
-    (λ s. let y : _≡_ {A = ℕ} 1 0 = rw (p, r, s) at q in omega arith)))
-
 -- where it refused, the number is the reading's
 pub record Faulted (r : Reading) (x : Refusal) : Type 0 where
   pub number : ℕ
   pub reading : r ≡ fault number
   pub refusal : x ≡ refusalOf number
   pub some : number ≡ 0 → ⊥
+  pub within : number ≤ 11
+
+-- the number of a reading without fields: of what is malformed it is not 0, and of fields 0 is none
+fault-is : (k n : ℕ) (p : Parse Hello) → readingOf k p ≡ fault n → (k ≡ n) × ((n ≡ 0) → isMalformed p ≡ true)
+fault-is k n malformed e = (cc, λ z. refl)
+fault-is zero n (parsed f) e = let y : _≡_ {A = ℕ} 0 1 = cc in absurd (omega arith)
+fault-is (suc k) n (parsed f) e = let y : suc k ≡ n = cc in (y, λ z. absurd (omega arith))
+
+faulted : (kind : ℕ) (layout : List ℕ → Parse Hello) (wrong : ℕ → Bool) (m : List ℕ) (n : ℕ) (x : Refusal)
+    → readingOf (helloNumber kind layout wrong m) (layout (bodyOf m)) ≡ fault n → x ≡ refusalOf n
+    → Faulted (readingOf (helloNumber kind layout wrong m) (layout (bodyOf m))) x
+unfolding helloNumber
+faulted kind layout wrong m n x e q =
+    let d = fault-is (helloNumber kind layout wrong m) n (layout (bodyOf m)) e in
+    record {
+      number = n;
+      reading = e;
+      refusal = q;
+      some = λ z. let none = first-zero _ refl (d .0 ∙ z) in not-both (d .1 z) (none .1 .1 .1 .0);
+      within = rw (← (d .0)) (first-within _ refl);
+    }
 
 pub client-fault : (m : List ℕ) (x : Refusal) → client.Refused x ≡ clientAnswer (readClient m) → Faulted (readClient m) x
 unfolding clientAnswer readClient
@@ -126,7 +173,7 @@ client-fault m x e = go (readClient m) refl e
   where
     go : (r : Reading) → readClient m ≡ r → client.Refused x ≡ clientAnswer r → Faulted (readClient m) x
     go (fields f) p q = let z : _≡_ {A = ℕ} 0 1 = cc in absurd (omega arith)
-    go (fault n) p q = record { number = n; reading = p; refusal = cc; some = fault-number 1 clientLayout clientVersion m n p }
+    go (fault n) p q = faulted 1 clientLayout wrongClientVersion m n x p (cc)
 
 pub server-fault : (m : List ℕ) (x : Refusal) → server.Refused x ≡ serverAnswer (readServer m) → Faulted (readServer m) x
 unfolding serverAnswer readServer
@@ -134,4 +181,4 @@ server-fault m x e = go (readServer m) refl e
   where
     go : (r : Reading) → readServer m ≡ r → server.Refused x ≡ serverAnswer r → Faulted (readServer m) x
     go (fields f) p q = let z : _≡_ {A = ℕ} 0 1 = cc in absurd (omega arith)
-    go (fault n) p q = record { number = n; reading = p; refusal = cc; some = fault-number 2 serverLayout serverVersion m n p }
+    go (fault n) p q = faulted 2 serverLayout wrongServerVersion m n x p (cc)

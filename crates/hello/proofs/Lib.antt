@@ -7,7 +7,6 @@ pub mod Answers
 pub mod Inversions
 pub mod Found
 pub mod Laid
+pub mod ListBytes
 pub mod Learnt
-pub mod Cases
 pub mod Reread
-pub mod Bounds

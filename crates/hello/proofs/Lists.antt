@@ -14,7 +14,7 @@ use borrow.Author.Tests.{leb-true, leb-false, eq-eqb, ne-eqb, eqb-false}
 use Rattle.seqs.specs.Pick.{pick}
 use Rattle.message.specs.Numbers.{pairAt}
 use Rattle.seqs.specs.Cases.{not-both}
-use Rattle.hello.specs.Layout.{Parse, malformed, holds, big, field, counted}
+use Rattle.hello.specs.Layout.{Parse, malformed, parsed, big, field, counted}
 use Rattle.hello.specs.Extensions.{Extension, shaped, extension, more, listOf}
 use Rattle.hello.specs.Fields.{isMalformed}
 use Rattle.hello.specs.Cuts.{parsedAt, wellFormedAt, listIn, listAt}
@@ -91,7 +91,7 @@ fuel (suc k) (suc k′) l h h′ =
     (λ p. extension-cong _ _ l (λ e r q. ap (more e) (fuel k k′ r (omega (arith, eqb-false (length l) 0 p)) (omega (arith, eqb-false (length l) 0 p)))))
 
 module _ (m : List ℕ) where
-  pub parsed-end : (i : ℕ) → length m ≤ i → parsedAt m i ≡ holds []
+  pub parsed-end : (i : ℕ) → length m ≤ i → parsedAt m i ≡ parsed []
   unfolding parsedAt listOf
   parsed-end i h =
       fuel (length m) (suc (length m)) (drop i m) (rw length-drop (omega arith)) (rw length-drop (omega arith))
@@ -123,11 +123,11 @@ module _ (m : List ℕ) where
 -- an extension in front
 whole-more : (e : Extension) (p : Parse (List Extension)) → isMalformed (more e p) ≡ isMalformed p
 whole-more e malformed = refl
-whole-more e (holds es) = refl
+whole-more e (parsed es) = refl
 
 list-more : (e : Extension) (p : Parse (List Extension)) → not (isMalformed p) ≡ true → listIn (more e p) ≡ e ∷ listIn p
 list-more e malformed h = absurd (eqb-false 0 1 refl (cc))
-list-more e (holds es) h = refl
+list-more e (parsed es) h = refl
 
 -- what a walk that tests each extension learns: `t` and `n` are the type and the length that it read at place i
 module _ (m : List ℕ) (i : ℕ) where

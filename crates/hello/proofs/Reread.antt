@@ -11,13 +11,13 @@ use lib.Seq.{take-at, drop-at}
 use borrow.Author.Tests.{eq-eqb, ne-eqb}
 use Rattle.seqs.specs.Pick.{pick}
 use Rattle.message.specs.Numbers.{byteAt}
-use Rattle.hello.specs.Layout.{Parse, malformed, holds, big, counted}
+use Rattle.hello.specs.Layout.{Parse, malformed, parsed, big, counted}
 use Rattle.hello.specs.Extensions.{Extension, riKind, emsKind, shaped, extension, listOf, extensionsOf}
-use Rattle.hello.specs.Fields.{Hello, fields, listed, closing, serverLayout, serverVersion, readServer}
+use Rattle.hello.specs.Fields.{Hello, fields, listed, closing, serverLayout, wrongServerVersion, readServer}
 use Rattle.hello.specs.Written.{twoBytes, writtenList, writtenBlock, Shaped, behindMethod}
 use Rattle.hello.proofs.Vectors.{field-yes}
 use Rattle.hello.proofs.Lists.{fuel, size-of}
-use Rattle.hello.proofs.Laid.{read-layout, holds-same, serverFields, server-front, server-parts}
+use Rattle.hello.proofs.Laid.{clean, parsed-same, serverFields, server-front, server-parts}
 
 two-back : (n : ℕ) → big (twoBytes n) ≡ n
 unfolding big
@@ -37,7 +37,7 @@ extension-back then e rest s =
     field-yes _ 2 (twoBytes (e .kind) ++ twoBytes (length (e .content)) ++ e .content ++ rest) (omega arith)
     ∙ (rw (two-back (e .kind)) (counted-back _ (e .content) rest ∙ (rw s)))
 
-pub list-back : (es : List Extension) → Shaped es → extensionsOf (writtenList es) ≡ holds es
+pub list-back : (es : List Extension) → Shaped es → extensionsOf (writtenList es) ≡ parsed es
 unfolding extensionsOf listOf writtenList
 list-back [] h = refl
 list-back (e ∷ es) h =
@@ -68,9 +68,9 @@ ems-shaped = refl
 pub carried : (m : List ℕ) (h : Hello) (es : List Extension) → readServer m ≡ fields h → behindMethod m h ≡ writtenBlock es → Shaped es → h .extensions ≡ es
 unfolding readServer
 carried m h es e w s =
-    let r = read-layout 2 serverLayout serverVersion m h e in
-    let g = server-front m h (r .0) (r .1) in
+    let r = clean 2 serverLayout wrongServerVersion m h e in
+    let g = server-front m h (r .shortest) (r .laid) in
     let k : length (h .identifier) ≡ g .i = ap (λ (x : Hello). length (x .identifier)) (server-parts m h g .is) ∙ size-of m 39 (g .i) (omega (arith, g .whole)) in
     let x : writtenBlock es ≡ drop (39 + g .i + 3) m = sym w ∙ ap (λ (n : ℕ). drop (39 + n + 3) m) k in
-    let then : Bool → List Extension → Parse Hello = λ b l. holds (serverFields m (g .i) b l) in
-    ap (λ (y : Hello). y .extensions) (holds-same (sym (block-back then es s) ∙ ap (λ (l : List ℕ). closing l then) x ∙ g .tail))
+    let then : Bool → List Extension → Parse Hello = λ b l. parsed (serverFields m (g .i) b l) in
+    ap (λ (y : Hello). y .extensions) (parsed-same (sym (block-back then es s) ∙ ap (λ (l : List ℕ). closing l then) x ∙ g .tail))

@@ -5,7 +5,7 @@ use mathlib.Core.Bool.{Bool, true, not}
 use mathlib.Core.List.{List, []}
 use Prim.Native.Nat.{ℕ, _+_, _≤_}
 use lib.ListN.{length, take, drop}
-use Rattle.hello.specs.Layout.{Parse, malformed, holds}
+use Rattle.hello.specs.Layout.{Parse, malformed, parsed}
 use Rattle.hello.specs.Extensions.{Extension, listOf}
 use Rattle.hello.specs.Fields.{Hello, isMalformed, opening, closing, clientLayout, serverLayout}
 use Rattle.hello.specs.Places.{behind, listPlace, extensionsAt, clientPlaces, serverPlaces}
@@ -48,7 +48,7 @@ wellFormedAt m i = not (isMalformed (parsedAt m i))
 
 abbrev pub listIn : Parse (List Extension) → List Extension
 listIn malformed = []
-listIn (holds es) = es
+listIn (parsed es) = es
 
 unfoldable pub listAt : List ℕ → ℕ → List Extension
 listAt m i = listIn (parsedAt m i)
@@ -62,14 +62,14 @@ Blocks m at (block.Read x) =
     × ((then : Bool → List Extension → Parse Hello) → closing (drop at m) then ≡ then b (listAt m (listPlace b at)))
 
 -- a hello's list of extensions, from place at of m on, is the one of its fields
-abbrev pub Listed : List ℕ → ℕ → Hello → Type 0
-Listed m at f = (at ≤ length m) × (wellFormedAt m at ≡ true) × (listAt m at ≡ f .extensions)
+abbrev pub SameList : List ℕ → ℕ → Hello → Type 0
+SameList m at f = (at ≤ length m) × (wellFormedAt m at ≡ true) × (listAt m at ≡ f .extensions)
 
 -- a message by the layout of its body
 abbrev pub ClientLays : List ℕ → ClientLaid → Type 0
 ClientLays m client.Malformed = clientLayout (drop 4 m) ≡ malformed
-ClientLays m (client.Laid h) = (f : Hello) × (clientLayout (drop 4 m) ≡ holds f) × (h ≡ clientPlaces f) × Listed m (h .extensions .list .at) f
+ClientLays m (client.Laid h) = (f : Hello) × (clientLayout (drop 4 m) ≡ parsed f) × (h ≡ clientPlaces f) × SameList m (h .extensions .list .at) f
 
 abbrev pub ServerLays : List ℕ → ServerLaid → Type 0
 ServerLays m server.Malformed = serverLayout (drop 4 m) ≡ malformed
-ServerLays m (server.Laid h) = (f : Hello) × (serverLayout (drop 4 m) ≡ holds f) × (h ≡ serverPlaces f) × Listed m (h .extensions .list .at) f
+ServerLays m (server.Laid h) = (f : Hello) × (serverLayout (drop 4 m) ≡ parsed f) × (h ≡ serverPlaces f) × SameList m (h .extensions .list .at) f

@@ -9,7 +9,7 @@ use lib.Dec.{eqb}
 use lib.ListN.{length, drop}
 use Rattle.seqs.specs.Pick.{pick}
 use Rattle.message.specs.Numbers.{byteAt}
-use Rattle.hello.specs.Layout.{Parse, malformed, holds, big, field, counted}
+use Rattle.hello.specs.Layout.{Parse, malformed, parsed, big, field, counted}
 
 pub record Extension : Type 0 where
   -- the extension's type
@@ -43,12 +43,12 @@ extension l then =
 -- one more, in front
 abbrev pub more : Extension → Parse (List Extension) → Parse (List Extension)
 more e malformed = malformed
-more e (holds es) = holds (e ∷ es)
+more e (parsed es) = parsed (e ∷ es)
 
 -- at most n extensions, and nothing after them
 unfoldable pub listOf : ℕ → List ℕ → Parse (List Extension)
-listOf zero l = pick (eqb (length l) 0) (holds []) malformed
-listOf (suc n) l = pick (eqb (length l) 0) (holds []) (extension l (λ e rest. more e (listOf n rest)))
+listOf zero l = pick (eqb (length l) 0) (parsed []) malformed
+listOf (suc n) l = pick (eqb (length l) 0) (parsed []) (extension l (λ e rest. more e (listOf n rest)))
 
 -- all of them: there are no more than bytes
 unfoldable pub extensionsOf : List ℕ → Parse (List Extension)

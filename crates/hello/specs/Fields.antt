@@ -9,7 +9,7 @@ use lib.ListN.{length}
 use Rattle.seqs.specs.Pick.{pick}
 use Rattle.refusal.specs.First.{firstOf}
 use Rattle.message.specs.Frame.{overlong, misstated, kindOf, bodyOf}
-use Rattle.hello.specs.Layout.{Parse, malformed, holds, big, field, counted, vector}
+use Rattle.hello.specs.Layout.{Parse, malformed, parsed, big, field, counted, vector}
 use Rattle.hello.specs.Extensions.{Extension, extensionsOf, twice}
 
 pub record Hello : Type 0 where
@@ -33,7 +33,7 @@ opening l then =
 -- the extensions, once the list of them is known to be whole
 abbrev pub listed : Parse (List Extension) → (List Extension → Parse Hello) → Parse Hello
 listed malformed then = malformed
-listed (holds es) then = then es
+listed (parsed es) then = then es
 
 -- 'Then either the body ends or a 2-byte length covers exactly the rest: extensions'
 unfoldable pub closing : List ℕ → (Bool → List Extension → Parse Hello) → Parse Hello
@@ -55,7 +55,7 @@ clientLayout body =
     (λ methods l₃.
     closing l₃
     (λ block extensions.
-    holds (record { version = big version; random = random; identifier = identifier; suites = suites; methods = methods; block = block; extensions = extensions }))))
+    parsed (record { version = big version; random = random; identifier = identifier; suites = suites; methods = methods; block = block; extensions = extensions }))))
     malformed))
 
 -- 'one suite 2, one method 1'
@@ -69,7 +69,7 @@ serverLayout body =
     (λ methods l₃.
     closing l₃
     (λ block extensions.
-    holds (record { version = big version; random = random; identifier = identifier; suites = suites; methods = methods; block = block; extensions = extensions })))))
+    parsed (record { version = big version; random = random; identifier = identifier; suites = suites; methods = methods; block = block; extensions = extensions })))))
 
 -- 'Which suites and methods appear isn't judged, but for 00 ff in a ClientHello, the signal': TLS_EMPTY_RENEGOTIATION_INFO_SCSV of
 -- RFC 5746, as one whole suite
@@ -79,32 +79,33 @@ signalIn (a ∷ []) = false
 signalIn (a ∷ b ∷ rest) = eqb (256 * a + b) 255 || signalIn rest
 
 -- 'A ClientHello below 03 03 is 3, higher ones pass'
-abbrev pub clientVersion : ℕ → Bool
-clientVersion v = ltb v 771
+abbrev pub wrongClientVersion : ℕ → Bool
+wrongClientVersion v = ltb v 771
 
 -- 'a ServerHello must say 03 03'
-abbrev pub serverVersion : ℕ → Bool
-serverVersion v = not (eqb v 771)
+abbrev pub wrongServerVersion : ℕ → Bool
+wrongServerVersion v = not (eqb v 771)
 
 -- a test of the fields, where there are fields
 abbrev pub among : Parse Hello → (Hello → Bool) → Bool
 among malformed test = false
-among (holds f) test = test f
+among (parsed f) test = test f
 
 abbrev pub isMalformed : {A : Type 0} → Parse A → Bool
 isMalformed malformed = true
-isMalformed (holds f) = false
+isMalformed (parsed f) = false
 
--- the number of a message that is to be of the type kind and of that layout: 10, 1, 2, 3. 'The wrong type is 1.'
+-- the number of a message that is to be of the type kind and of that layout, with a version that is not wrong: 10, 1, 2, 3. 'The
+-- wrong type is 1.'
 unfoldable pub helloNumber : ℕ → (List ℕ → Parse Hello) → (ℕ → Bool) → List ℕ → ℕ
-helloNumber kind layout version m =
+helloNumber kind layout wrong m =
     firstOf
     ((10, overlong m)
     ∷ (1, misstated m)
     ∷ (1, not (eqb (kindOf m) kind))
     ∷ (1, isMalformed (layout (bodyOf m)))
     ∷ (2, among (layout (bodyOf m)) (λ f. twice (f .extensions)))
-    ∷ (3, among (layout (bodyOf m)) (λ f. version (f .version)))
+    ∷ (3, among (layout (bodyOf m)) (λ f. wrong (f .version)))
     ∷ [])
 
 -- what reading a hello answers
@@ -114,13 +115,13 @@ pub data Reading : Type 0 where
 
 abbrev pub readingOf : ℕ → Parse Hello → Reading
 readingOf n malformed = fault n
-readingOf zero (holds f) = fields f
-readingOf (suc n) (holds f) = fault (suc n)
+readingOf zero (parsed f) = fields f
+readingOf (suc n) (parsed f) = fault (suc n)
 
 -- ClientHello, type 1
 unfoldable pub readClient : List ℕ → Reading
-readClient m = readingOf (helloNumber 1 clientLayout clientVersion m) (clientLayout (bodyOf m))
+readClient m = readingOf (helloNumber 1 clientLayout wrongClientVersion m) (clientLayout (bodyOf m))
 
 -- ServerHello, type 2
 unfoldable pub readServer : List ℕ → Reading
-readServer m = readingOf (helloNumber 2 serverLayout serverVersion m) (serverLayout (bodyOf m))
+readServer m = readingOf (helloNumber 2 serverLayout wrongServerVersion m) (serverLayout (bodyOf m))

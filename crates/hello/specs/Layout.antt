@@ -10,7 +10,7 @@ use Rattle.seqs.specs.Pick.{pick}
 -- what bytes hold by their layout
 pub data Parse (A : Type 0) : Type 0 where
   malformed : Parse A
-  holds : A → Parse A
+  parsed : A → Parse A
 
 -- a number, big-endian
 unfoldable pub big : List ℕ → ℕ

@@ -30,10 +30,14 @@ part at n = record { at = at; length = n }
 abbrev pub behind : Part → ℕ
 behind p = p .at + p .length
 
--- the part p of the message m is the list l
+-- the bytes of a message that a part is
+abbrev pub bytesAt : List ℕ → Part → List ℕ
+bytesAt m p = take (p .length) (drop (p .at) m)
+
+-- the part p, whole and within the message m, is the list l
 pub record Points (m : List ℕ) (p : Part) (l : List ℕ) : Type 0 where
   pub within : behind p ≤ length m
-  pub is : take (p .length) (drop (p .at) m) ≡ l
+  pub is : bytesAt m p ≡ l
 
 -- how many bytes a list of extensions takes
 unfoldable pub sizeOf : List Extension → ℕ

@@ -12,7 +12,7 @@ use Rattle.decision.proofs.client.judge_server_hello.Statement.{stateme
 use Rattle.decision.proofs.client.judge_server_hello.Tie as tie
 
 add-end : tie.Need-add-end
-add-end c = let a = c .before .before .before .before .before .args in omega (arith, server-learnt (a .message .now) (a .hello) (c .before .before .before .before .before .pre) .bounded)
+add-end c = let a = c .before .before .before .before .before .args in omega (arith, server-learnt (a .message .now) (a .hello) (c .before .before .before .before .before .pre) .extensions .bounded)
 
 add-to : tie.Need-add-to
 add-to c = let a = c .before .before .before .before .before .before .before .args in omega (arith, server-learnt (a .message .now) (a .hello) (c .before .before .before .before .before .before .before .pre) .identifier .within)
@@ -33,7 +33,7 @@ part-judge-told-start-2 : tie.Need-part-judge-told-start-2
 part-judge-told-start-2 c = search needs
 
 part-judge-told-end-2 : tie.Need-part-judge-told-end-2
-part-judge-told-end-2 c = let a = c .before .before .before .before .before .before .before .before .before .args in omega (arith, server-learnt (a .message .now) (a .hello) (c .before .before .before .before .before .before .before .before .before .pre) .bounded)
+part-judge-told-end-2 c = let a = c .before .before .before .before .before .before .before .before .before .args in omega (arith, server-learnt (a .message .now) (a .hello) (c .before .before .before .before .before .before .before .before .before .pre) .extensions .bounded)
 
 judge-told-requires : tie.Need-judge-told-requires
 judge-told-requires c κs = search needs

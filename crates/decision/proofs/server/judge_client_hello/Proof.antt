@@ -12,7 +12,7 @@ use Rattle.decision.proofs.server.judge_client_hello.Statement.{stateme
 use Rattle.decision.proofs.server.judge_client_hello.Tie as tie
 
 add-end : tie.Need-add-end
-add-end c = let a = c .before .before .before .before .before .args in omega (arith, client-learnt (a .message .now) (a .hello) (c .before .before .before .before .before .pre) .bounded)
+add-end c = let a = c .before .before .before .before .before .args in omega (arith, client-learnt (a .message .now) (a .hello) (c .before .before .before .before .before .pre) .extensions .bounded)
 
 sub-judge-asked : tie.Need-sub-judge-asked
 sub-judge-asked c = search needs
@@ -21,7 +21,7 @@ part-judge-asked-start : tie.Need-part-judge-asked-start
 part-judge-asked-start c = search needs
 
 part-judge-asked-end : tie.Need-part-judge-asked-end
-part-judge-asked-end c = let a = c .before .before .before .before .before .before .before .args in omega (arith, client-learnt (a .message .now) (a .hello) (c .before .before .before .before .before .before .before .pre) .bounded)
+part-judge-asked-end c = let a = c .before .before .before .before .before .before .before .args in omega (arith, client-learnt (a .message .now) (a .hello) (c .before .before .before .before .before .before .before .pre) .extensions .bounded)
 
 judge-asked-requires : tie.Need-judge-asked-requires
 judge-asked-requires c κs = search needs

@@ -1,0 +1,33 @@
+-- What a call's number tells of its tests.
+-- Assumes nothing.
+use mathlib.Core.Path.{_≡_, refl}
+use mathlib.Core.Bool.{Bool, true, false, not, _&&_}
+use mathlib.Core.List.{List, [], _∷_}
+use Prim.Native.Nat.{ℕ, _≤_}
+use native.Mathlib.Omega.{arith}
+use lib.Dec.{leb, eqb}
+use borrow.Author.Tests.{leb-true, eqb-false, not-true}
+use Rattle.seqs.specs.Cases.{and-left, and-right}
+use Rattle.refusal.specs.First.{firstOf}
+
+-- every number of the list is one of 1 to 11: this is computed, whatever the tests are
+abbrev pub refusing : List (ℕ × Bool) → Bool
+refusing [] = true
+refusing ((n, b) ∷ rest) = not (eqb n 0) && (leb n 11 && refusing rest)
+
+-- no test holds
+abbrev pub NoneHolds : List (ℕ × Bool) → Type 0
+NoneHolds [] = Unit {0}
+NoneHolds ((n, b) ∷ rest) = (b ≡ false) × NoneHolds rest
+
+pub first-zero : (tests : List (ℕ × Bool)) → refusing tests ≡ true → firstOf tests ≡ 0 → NoneHolds tests
+unfolding firstOf
+first-zero [] t e = tt
+first-zero ((n, true) ∷ rest) t e = absurd (eqb-false n 0 (not-true _ (and-left (not (eqb n 0)) _ t)) e)
+first-zero ((n, false) ∷ rest) t e = (refl, first-zero rest (and-right (leb n 11) _ (and-right (not (eqb n 0)) _ t)) e)
+
+pub first-within : (tests : List (ℕ × Bool)) → refusing tests ≡ true → firstOf tests ≤ 11
+unfolding firstOf
+first-within [] t = omega arith
+first-within ((n, true) ∷ rest) t = leb-true n 11 (and-left _ (refusing rest) (and-right (not (eqb n 0)) _ t))
+first-within ((n, false) ∷ rest) t = first-within rest (and-right (leb n 11) _ (and-right (not (eqb n 0)) _ t))
