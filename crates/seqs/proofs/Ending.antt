@@ -11,10 +11,12 @@ use lib.Dec.{ltb}
 use lib.ListN.{length, take, drop, set, replicate, length-append, length-replicate, replicate-append-replicate}
 use lib.Seq.{take-all, take-at, drop-at, set-at, drop-append-le}
 use Rattle.seqs.specs.Blocks.{after}
-use Rattle.seqs.specs.Padding.{ByteOrder, pad, padding, zeros, inBytes, length-inBytes}
+use Rattle.seqs.specs.Words.{ByteOrder, inBytes}
+use Rattle.seqs.specs.Padding.{pad, padding, zeros}
 use Rattle.seqs.specs.Taken.{leftOf, Holds}
 use Rattle.seqs.specs.Cases.{by-test}
 use Rattle.seqs.proofs.Blocks.{after-append, after-from}
+use Rattle.seqs.proofs.Words.{length-inBytes}
 use Rattle.seqs.proofs.Zeros.{take-zeros}
 use Rattle.seqs.proofs.Taking.{split, room, length-left, rest-of}
 

@@ -1,3 +1,7 @@
+pub mod Tab
+pub mod Words
+pub mod Bytes
+pub mod Bitwise
 pub mod Blocks
 pub mod Zeros
 pub mod Taking

@@ -1,5 +1,5 @@
-pub mod Words
 pub mod Functions
+pub mod Value
 pub mod Constants
 pub mod Compress
 pub mod Ring
