@@ -1,3 +1,5 @@
+pub mod Flag
+pub mod Cut
 pub mod Tab
 pub mod Words
 pub mod Bytes

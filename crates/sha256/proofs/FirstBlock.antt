@@ -13,7 +13,7 @@ use Rattle.seqs.proofs.Ending.{one-block, finished-one}
 use Rattle.seqs.specs.Tab.{tab}
 use Rattle.seqs.specs.Words.{big, inBytes}
 use Rattle.seqs.proofs.Words.{length-inBytes}
-use Rattle.sha256.specs.Value.{valueOf}
+use Rattle.sha256.specs.Layout.{valueOf}
 use Rattle.sha256.specs.Constants.{initial}
 use Rattle.sha256.specs.Compress.{step, output}
 use Rattle.sha256.specs.Sha256.{hashed, sha256}

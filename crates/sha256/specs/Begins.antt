@@ -4,7 +4,7 @@ use mathlib.Core.Path.{_≡_}
 use mathlib.Core.List.{List}
 use Prim.Native.Nat.{ℕ}
 use lib.ListN.{length}
-use Rattle.sha256.specs.Value.{valueOf}
+use Rattle.sha256.specs.Layout.{valueOf}
 use Rattle.sha256.specs.Constants.{initial}
 use Rattle.sha256.specs.Compress.{step}
 use Rattle.sha256.specs.declared.compress.State.{State}

@@ -4,6 +4,7 @@ pub mod Constants
 pub mod Compress
 pub mod Ring
 pub mod Sha256
+pub mod Layout
 pub mod Running
 pub mod Begins
 pub mod Promise

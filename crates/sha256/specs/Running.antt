@@ -5,7 +5,7 @@ use mathlib.Core.List.{List}
 use Prim.Native.Nat.{ℕ, _≤_}
 use lib.ListN.{length}
 use Rattle.seqs.specs.Taken.{Holds}
-use Rattle.sha256.specs.Value.{valueOf}
+use Rattle.sha256.specs.Layout.{valueOf}
 use Rattle.sha256.specs.Constants.{initial}
 use Rattle.sha256.specs.Compress.{step}
 use Rattle.sha256.specs.declared.running.Hash.{Hash}

@@ -1,7 +1,6 @@
 -- The eight words of FIPS 180-4.
 -- Assumes nothing.
 use Prim.Native.Nat.{ℕ}
-use Rattle.sha256.specs.declared.compress.State.{State}
 
 -- 'the eight working variables, a, b, c, d, e, f, g, and h'; and the hash value H(i), whose words H0 to H7 stand in their places
 pub record Value : Type 0 where
@@ -13,7 +12,3 @@ pub record Value : Type 0 where
   pub f : ℕ
   pub g : ℕ
   pub h : ℕ
-
--- those that a struct of the code holds
-abbrev pub valueOf : State → Value
-valueOf s = record { a = s .a; b = s .b; c = s .c; d = s .d; e = s .e; f = s .f; g = s .g; h = s .h }

@@ -5,7 +5,7 @@ use Prim.Native.Nat.{suc, _+_, _-_, _/_, _%_, _≤_}
 use lib.ListN.{length, drop}
 use Rattle.sha256.specs.Sha256.{hashed}
 use Rattle.seqs.proofs.Blocks.{after-none, after-more}
-use Rattle.sha256.specs.Value.{valueOf}
+use Rattle.sha256.specs.Layout.{valueOf}
 use Rattle.sha256.specs.Compress.{step}
 use native.Mathlib.Omega.{arith}
 use borrow.Author.Needs.{needs}

@@ -6,7 +6,7 @@ use Prim.Native.Nat.{ℕ}
 use native.Mathlib.Omega.{arith}
 use lib.ListN.{length, set}
 use lib.Seq.{take-all}
-use Rattle.sha256.specs.Value.{valueOf}
+use Rattle.sha256.specs.Layout.{valueOf}
 use Rattle.sha256.specs.Compress.{step, output}
 use Rattle.sha256.proofs.FirstBlock.{begun-digest, lastBlock, length-lastBlock, laid-out}
 use borrow.Author.Needs.{needs}

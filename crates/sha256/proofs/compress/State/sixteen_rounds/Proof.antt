@@ -3,7 +3,7 @@
 use mathlib.Core.Path.{_≡_, _∙_, ap}
 use Prim.Native.Nat.{ℕ, _+_, _*_}
 use native.Mathlib.Omega.{arith}
-use Rattle.sha256.specs.Value.{valueOf}
+use Rattle.sha256.specs.Layout.{valueOf}
 use Rattle.sha256.specs.Compress.{schedule, rounds}
 use Rattle.sha256.proofs.Rolling.{round-more}
 use borrow.Author.Needs.{needs}

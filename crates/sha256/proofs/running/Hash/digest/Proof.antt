@@ -10,7 +10,8 @@ use lib.Seq.{take-all, length-take-le}
 use Rattle.seqs.specs.Words.{big, inBytes}
 use Rattle.seqs.proofs.Words.{length-inBytes}
 use Rattle.seqs.proofs.Ending.{finished-one, finished-two}
-use Rattle.sha256.specs.Value.{Value, valueOf}
+use Rattle.sha256.specs.Value.{Value}
+use Rattle.sha256.specs.Layout.{valueOf}
 use Rattle.sha256.specs.Constants.{initial}
 use Rattle.sha256.specs.Compress.{step, output}
 use Rattle.sha256.specs.Sha256.{padded, hashed, sha256}
