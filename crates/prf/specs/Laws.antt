@@ -8,7 +8,8 @@ use native.Mathlib.Omega.{arith}
 use borrow.Author.Tests.{eq-eqb, ne-eqb}
 use lib.ListN.{length, replicate, length-append}
 use lib.Seq.{length-take-le}
-use Rattle.seqs.specs.Bytes.{Bytes, bytes-none, bytes-append, bytes-take}
+use Rattle.seqs.specs.Bytes.{Bytes}
+use Rattle.seqs.proofs.Bytes.{bytes-none, bytes-append, bytes-take}
 use Rattle.refusal.specs.First.{firstOf}
 use Rattle.refusal.specs.Table.{refusalOf}
 use Rattle.sha256.specs.Laws.{length-sha256, bytes-sha256}
