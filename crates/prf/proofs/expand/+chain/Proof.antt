@@ -8,7 +8,8 @@ use Rattle.sha256.specs.Running.{Running}
 use Rattle.prf.specs.Hash.{SHA256}
 use Rattle.prf.specs.Hmac.{innerKey, hmac}
 use Rattle.prf.specs.Prf.{A}
-use Rattle.prf.specs.Laws.{length-hmac}
+use Rattle.prf.proofs.Sha256.{sha256-lawful}
+use Rattle.prf.proofs.Lengths.{length-hmac}
 use Rattle.prf.proofs.Masks.{length-inner}
 use Rattle.prf.proofs.Chains.{chain-none, chain-more}
 use borrow.Author.Needs.{needs}
@@ -62,8 +63,8 @@ chain-returns : (t : ℕ) → chain-lts.Need-returns (
 ) (chain-at t) chain.Post
 chain-returns t c k h =
     let p = c .before .before .before .before .before in
-    chain-none k (p .args .label .now ++ p .args .seed .now) (c .both .result) (replicate 64 0) (p .args .i) (c .before .if1 .taken) refl
-    (c .both .ensures _ (omega (arith, length-inner k)) (h .inner))
+    chain-none sha256-lawful Running k (p .args .label .now ++ p .args .seed .now) (c .both .result) 64 (replicate 64 0) (p .args .i) (c .before .if1 .taken) refl
+    (c .both .ensures _ (omega (arith, length-inner sha256-lawful k)) (h .inner))
 
 chain-sub-chain : (t : ℕ) → chain-lts.Need-sub-chain (
   both-reads.Asked,
@@ -224,12 +225,12 @@ chain-returns-2 t c k h =
     let l = c .before .before .before .before .before .before .before .before .before .chain .ensures k h in
     let a = c .before .before .before .before .before .before .before .tag .result in
     let f : a ≡ hmac SHA256 k (A SHA256 k s (i - 1)) = c .before .before .before .before .before .before .before .tag .ensures k _ h (l .hash) in
-    let n : length a ≡ 32 = ap length f ∙ length-hmac k _ in
+    let n : length a ≡ 32 = ap length f ∙ length-hmac sha256-lawful k _ in
     let g : Running (c .before .before .before .before .before .absorb .result .hash) (innerKey SHA256 k ++ a) =
-    c .before .before .before .before .before .absorb .ensures .runs _ (h .inner) (omega (arith, length-inner k)) in
+    c .before .before .before .before .before .absorb .ensures .runs _ (h .inner) (omega (arith, length-inner sha256-lawful k)) in
     let r : Running (c .before .before .before .both2 .result) (innerKey SHA256 k ++ (a ++ s)) =
-    rw (← append-assoc (innerKey SHA256 k) a s) (c .before .before .before .both2 .ensures _ (simp length-append (omega (arith, length-inner k))) g) in
-    chain-more k s _ _ i (i - 1) (omega (arith, c .before .before .before .before .before .before .before .before .before .before .if1)) (omega (arith, p .pre)) l f g (c .before .before .tag2 .ensures k _ h r) (c .placed .ensures)
+    rw (← append-assoc (innerKey SHA256 k) a s) (c .before .before .before .both2 .ensures _ (simp length-append (omega (arith, length-inner sha256-lawful k))) g) in
+    chain-more sha256-lawful Running k s _ 64 _ i (i - 1) (omega (arith, c .before .before .before .before .before .before .before .before .before .before .if1)) (omega (arith, p .pre)) l f g (c .before .before .tag2 .ensures k _ h r) (c .placed .ensures)
 
 pub +chain-spec : {M : Type 1} → statement M
 +chain-spec = close μ-chain λ t. chain-lts.spec (

@@ -4,6 +4,7 @@ use Prim.Native.Nat.{_≤_}
 use native.Mathlib.Omega.{arith}
 use lib.ListN.{length}
 use Rattle.prf.proofs.Answers.{tagged, untagged}
+use Rattle.prf.proofs.Sha256.{sha256-lawful}
 use Rattle.prf.proofs.Masks.{length-inner}
 use Rattle.prf.proofs.Numbers.{hmac-key, hmac-message, hmac-done}
 use borrow.Author.Needs.{needs}
@@ -45,7 +46,7 @@ returns-3 c =
     let h = c .before .before .before .before .before .by .ensures in
     let w : length (a .message .now) ≤ 65536 = c .before .before .before .before .before .before .if2 .left in
     tagged k (a .message .now) _ _ (c .refuse3 .ensures) (hmac-done _ _ (omega arith) w)
-    (c .before .tag .ensures k _ h (c .before .before .before .absorb .ensures .runs _ (h .inner) (omega (arith, length-inner k))))
+    (c .before .tag .ensures k _ h (c .before .before .before .absorb .ensures .runs _ (h .inner) (omega (arith, length-inner sha256-lawful k))))
 
 pub hmac-spec : {M : Type 1} → statement M
 hmac-spec =

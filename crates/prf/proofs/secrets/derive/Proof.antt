@@ -6,7 +6,8 @@ use lib.ListN.{length}
 use lib.Seq.{length-take-le}
 use Rattle.prf.proofs.Numbers.{secret-none, secret-long, secret-seed, secret-out, secret-done}
 use Rattle.prf.proofs.Answers.{derived, underived}
-use Rattle.prf.proofs.Fronts.{front-of, put-48}
+use Rattle.prf.proofs.Sha256.{sha256-lawful}
+use Rattle.prf.proofs.Fronts.{front-of, put-front}
 use borrow.Author.Needs.{needs}
 use Rattle.prf.proofs.secrets.derive.Statement.{statement}
 use Rattle.prf.proofs.secrets.derive.Tie as tie
@@ -73,7 +74,7 @@ returns-5 c =
     let l = c .before .before .before .before .before .before .before .chain .ensures k (c .before .before .before .before .before .before .before .before .by .ensures) in
     derived _ (a .out .now) _ (c .refuse5 .ensures)
     (secret-done (a .due) _ _ (length (a .out .now)) (c .before .before .before .before .before .before .before .before .before .before .before .before .if1 .left) (c .before .before .before .before .before .before .before .before .before .before .before .if2 .left) (c .before .before .before .before .before .before .before .before .before .before .if3 .left) (c .before .before .before .before .before .before .before .before .before .if4 .left))
-    (rw (← front-of k (a .label .now) (a .seed .now) 48 l (omega arith)) (put-48 (a .out .now) _ (c .before .before .before .before .before .before .before .chain .result .out) (l .long) (c .before .before .before .before .before .before .before .before .before .if4 .left) (c .before .before .before .put .ensures .1)))
+    (rw (← front-of sha256-lawful k (a .label .now) (a .seed .now) (c .before .before .before .before .before .before .before .chain .result .out) 48 (l .out)) (put-front (a .out .now) _ (c .before .before .before .before .before .before .before .chain .result .out) 48 (omega (arith, l .long)) (c .before .before .before .before .before .before .before .before .before .if4 .left) (c .before .before .before .put .ensures .1)))
 
 pub derive-spec : {M : Type 1} → statement M
 derive-spec =

@@ -1,10 +1,10 @@
 -- Refused by the secret's length, or the first 12 bytes of the output.
 -- Assumes nothing.
 use mathlib.Core.Path.{_∙_}
-use native.Mathlib.Omega.{arith}
 use Rattle.prf.specs.Secrets.{verifyData, finishedLabel}
 use Rattle.prf.proofs.Numbers.{verify-other, verify-done}
 use Rattle.prf.proofs.Answers.{verified, unverified}
+use Rattle.prf.proofs.Sha256.{sha256-lawful}
 use Rattle.prf.proofs.Fronts.{front-of}
 use borrow.Author.Needs.{needs}
 use Rattle.prf.proofs.secrets.verify_data.Statement.{statement}
@@ -46,7 +46,7 @@ returns-2 c =
     let k = a .secret .now in
     let l = rw (c .before .before .before .before .before .before .before .finished-label .ensures) at (c .before .before .before .chain .ensures k (c .before .before .before .before .before .before .by .ensures)) in
     verified k (a .t3) (a .server) _ _ (c .refuse2 .ensures) (verify-done _ (c .before .before .before .before .before .before .before .before .if1 .left))
-    (c .before .front .ensures ∙ front-of k (finishedLabel (a .server)) (a .t3) 12 l (omega arith))
+    (c .before .front .ensures ∙ front-of sha256-lawful k (finishedLabel (a .server)) (a .t3) (c .before .before .before .chain .result .out) 12 (l .out))
 
 pub verify-data-spec : {M : Type 1} → statement M
 verify-data-spec =

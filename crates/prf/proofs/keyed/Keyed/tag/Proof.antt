@@ -4,6 +4,7 @@ use mathlib.Core.Path.{_≡_}
 use native.Mathlib.Omega.{arith}
 use lib.ListN.{length}
 use Rattle.prf.specs.Hmac.{hmac}
+use Rattle.prf.proofs.Sha256.{sha256-lawful}
 use Rattle.prf.proofs.Masks.{length-outer}
 use borrow.Author.Needs.{needs}
 use Rattle.prf.proofs.keyed.Keyed.tag.Statement.{statement}
@@ -25,7 +26,7 @@ returns : tie.Need-returns
 unfolding hmac
 returns c k m h r =
     let n : length (c .before .before .before .before .before .digest .result) ≡ 32 = search needs in
-    rw (← c .before .before .before .before .before .digest .ensures _ r) (c .digest3 .ensures _ (c .before .before .absorb .ensures .runs _ (h .outer) (omega (arith, length-outer k))))
+    rw (← c .before .before .before .before .before .digest .ensures _ r) (c .digest3 .ensures _ (c .before .before .absorb .ensures .runs _ (h .outer) (omega (arith, length-outer sha256-lawful k))))
 
 pub tag-spec : {M : Type 1} → statement M
 tag-spec =
