@@ -23,7 +23,7 @@ module _ {H : HashFunction} (L : Lawful H) where
   unfolding hmac
   bytes-hmac k m = L .bytes _
 
-  length-expansion : (k s : List ℕ) (n : ℕ) → length (expansion H k s n) ≡ H .width * n
+  pub length-expansion : (k s : List ℕ) (n : ℕ) → length (expansion H k s n) ≡ H .width * n
   unfolding expansion
   length-expansion k s zero = omega arith
   length-expansion k s (suc n) = rw (length-append, length-expansion k s n, length-hmac, mul-suc)
