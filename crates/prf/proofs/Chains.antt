@@ -37,10 +37,11 @@ module _ {H : HashFunction} (L : Lawful H) (k seed entry : List ℕ) where
   unfolding A expansion
   chain-more {a} {mid} {part} i j e h p q x =
       let l : length part ≡ H .width = ap length p ∙ length-hmac L k (a ++ seed) in
+      let g = p ∙ ap (λ (b : List ℕ). hmac H k (b ++ seed)) (h .last) in
       rw e
       (record {
-        last = rw (← h .last) q;
-        out = rw (mul-suc, ← h .last, ← p) (x ∙ pasted j (length part) part h ∙ (rw (take-length, l)));
+        last = q ∙ ap (hmac H k) (h .last);
+        out = rw mul-suc (x ∙ pasted j (length part) part h ∙ (rw (take-length, l)) ∙ ap (λ (r : List ℕ). (expansion H k seed j ++ r) ++ drop (H .width * j + H .width) entry) g);
       })
 
 -- the output ends within part i + 1, n bytes behind the first i parts

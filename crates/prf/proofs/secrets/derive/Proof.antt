@@ -3,7 +3,8 @@
 use mathlib.Core.Path.{_≡_, sym, ap}
 use mathlib.Core.List.{List, _++_}
 use Prim.Native.Nat.{ℕ}
-use lib.ListN.{length, take, drop}
+use lib.ListN.{length, drop}
+use native.Mathlib.Omega.{arith}
 use lib.Seq.{length-take-le}
 use Rattle.prf.specs.Hash.{SHA256}
 use Rattle.prf.specs.Prf.{prf}
@@ -52,12 +53,10 @@ slice-relend-prefix-expand : tie.Need-slice-relend-prefix-expand
 slice-relend-prefix-expand c = search needs
 
 slice-aggregate-expand : tie.Need-slice-aggregate-expand
-slice-aggregate-expand c = sym (length-take-le 48 (c .before .before .before .before .before .before .before .before .before .before .args .out .now) (c .before .before .if4 .left))
+slice-aggregate-expand c = sym (length-take-le _ (c .before .before .before .before .before .before .before .before .before .before .args .out .now) (omega arith))
 
 expand-requires : tie.Need-expand-requires
-expand-requires c κs =
-    let n : length (take 48 (c .before .before .before .before .before .before .before .before .before .before .args .out .now)) ≡ 48 = length-take-le 48 (c .before .before .before .before .before .before .before .before .before .before .args .out .now) (c .before .before .if4 .left) in
-    search needs
+expand-requires c κs = omega (arith, slice-aggregate-expand c)
 
 refuse-requires-5 : tie.Need-refuse-requires-5
 refuse-requires-5 c κs = search needs
@@ -72,8 +71,7 @@ returns-5 c =
     let a = w .before .before .before .before .before .before .before .before .args in
     let k = a .pre-master .now in
     let out = a .out .now in
-    let n : length (take 48 out) ≡ 48 = length-take-le 48 out (w .if4 .left) in
-    let v : x .expand .last .1 .1 .1 .0 ≡ prf SHA256 k (a .label .now) (a .seed .now) 48 = rw n at (x .expand .ensures k (x .before .before .by .ensures)) in
+    let v : x .expand .last .1 .1 .1 .0 ≡ prf SHA256 k (a .label .now) (a .seed .now) 48 = rw (← slice-aggregate-expand (x .before)) at (x .expand .ensures k (x .before .before .by .ensures)) in
     derived _ out _ (c .refuse5 .ensures)
     (secret-done (a .due) _ _ (length out) (w .before .before .before .if1 .left) (w .before .before .if2 .left) (w .before .if3 .left) (w .if4 .left))
     (ap (λ (r : List ℕ). r ++ drop 48 out) v)

@@ -25,8 +25,8 @@ unfolding innerKey outerKey
 returns c =
     let k = c .before .before .before .before .key-block .ensures in
     record {
-      inner = rw (← k, ← c .before .before .before .masked .ensures) (c .before .before .of-block .ensures);
-      outer = rw (← k, ← c .before .masked2 .ensures) (c .of-block2 .ensures);
+      inner = rw (c .before .before .before .masked .ensures, k) at (c .before .before .of-block .ensures);
+      outer = rw (c .before .masked2 .ensures, k) at (c .of-block2 .ensures);
     }
 
 pub by-spec : {M : Type 1} → statement M
