@@ -3,6 +3,7 @@ pub mod ByteWords
 pub mod Hashing
 pub mod Taking
 pub mod Padded
+pub mod FirstBlock
 pub mod OneShot
 pub mod Rolling
 pub mod Room

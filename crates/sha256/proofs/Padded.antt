@@ -16,7 +16,7 @@ use Rattle.sha256.specs.Laws.{rest-only}
 use Rattle.sha256.specs.declared.compress.State.{State}
 use Rattle.sha256.specs.declared.running.Hash.{Hash}
 
-one-block : (s : State) (b : List ℕ) → length b ≡ 64 → hashed s 1 b ≡ step s b
+pub one-block : (s : State) (b : List ℕ) → length b ≡ 64 → hashed s 1 b ≡ step s b
 unfolding hashed after
 one-block s b e = ap (step s) (take-all 64 b (omega arith))
 

@@ -1,8 +1,8 @@
--- More bytes keep `Holds`: the tail and the new bytes are one list, whose whole blocks go into the state and whose rest becomes the tail.
+-- More bytes keep `Running`: the tail and the new bytes are one list, whose whole blocks go into the state and whose rest becomes the tail.
 -- Assumes nothing.
 use mathlib.Core.Path.{_≡_, sym, _∙_, ap, ap₂}
 use mathlib.Core.List.{List, [], _++_, append-nil}
-use Prim.Native.Nat.{ℕ, suc, _+_, _-_, _*_, _≤_, _<_}
+use Prim.Native.Nat.{ℕ, suc, _+_, _-_, _*_, _%_, _^_, _≤_, _<_}
 use native.Mathlib.Nat.{mul-add}
 use native.Mathlib.Numerals.{one-add}
 use native.Mathlib.Omega.{arith}
@@ -12,23 +12,23 @@ use Rattle.seqs.specs.Blocks.{after, after-append, after-from}
 use Rattle.sha256.specs.Constants.{initial}
 use Rattle.sha256.specs.Compress.{step}
 use Rattle.sha256.specs.Sha256.{hashed}
-use Rattle.sha256.specs.Running.{Holds}
+use Rattle.sha256.specs.Running.{Holds, Running, most}
 use Rattle.sha256.specs.declared.compress.State.{State}
 use Rattle.sha256.specs.declared.running.Hash.{Hash}
 
-module _ (hash : Hash) (m b : List ℕ) (h : Holds hash m) (at j left : ℕ) (next : State) (tail : List ℕ) where
+module _ (hash : Hash) (m b : List ℕ) (h : Holds hash m) (at j left : ℕ) (next : State) (tail : List ℕ) (count : ℕ) where
   -- what waits, with the new bytes behind it, is the message from its last whole block on
   behind : at ≡ h .rest → take at (hash .tail) ++ b ≡ drop (64 * h .full) (m ++ b)
   behind e =
       let d : 64 * h .full ≤ length m = omega (arith, h .size) in
       rw (drop-append-le, e, h .tail)
 
-  pub holds-more : at ≡ h .rest → at + length b ≡ 64 * j + left → left < 64
+  holds-more : count ≡ hash .length + length b → at ≡ h .rest → at + length b ≡ 64 * j + left → left < 64
       → next ≡ hashed (hash .state) j (take at (hash .tail) ++ b)
       → take left tail ≡ drop (64 * j) (take at (hash .tail) ++ b)
-      → Holds (record { state = next; tail = tail; length = hash .length + length b }) (m ++ b)
+      → Holds (record { state = next; tail = tail; length = count }) (m ++ b)
   unfolding hashed
-  holds-more e s r p q =
+  holds-more n e s r p q =
       let d : 64 * h .full ≤ length m = omega (arith, h .size) in
       record {
         full = h .full + j;
@@ -45,6 +45,20 @@ module _ (hash : Hash) (m b : List ℕ) (h : Holds hash m) (at j left : ℕ) (ne
             ∙ ap (drop (64 * j)) (behind e)
             ∙ drop-drop (64 * j) (64 * h .full) (m ++ b)
             ∙ ap (λ (n : ℕ). drop n (m ++ b)) (sym (mul-add 64 (h .full) j));
+      }
+
+-- as `more` does it, whose sum wraps
+module _ (hash : Hash) (m b : List ℕ) (at j left : ℕ) (next : State) (tail : List ℕ) (count : ℕ) where
+  pub runs-more : Running hash m → length m + length b ≤ most → count ≡ (hash .length + length b) % 2 ^ 64 → at ≡ hash .length % 64
+      → at + length b ≡ 64 * j + left → left < 64
+      → next ≡ hashed (hash .state) j (take at (hash .tail) ++ b)
+      → take left tail ≡ drop (64 * j) (take at (hash .tail) ++ b)
+      → Running (record { state = next; tail = tail; length = count }) (m ++ b)
+  runs-more r w n e s l p q =
+      let h = r .holds in
+      record {
+        holds = holds-more hash m b h at j left next tail count (omega (arith, h .taken)) (omega (arith, h .taken, h .size, h .room)) s l p q;
+        bounded = simp length-append (omega arith);
       }
 
 -- the bytes that are left over, at the front of the tail

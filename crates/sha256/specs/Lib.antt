@@ -5,5 +5,6 @@ pub mod Compress
 pub mod Ring
 pub mod Sha256
 pub mod Running
+pub mod Begins
 pub mod Promise
 pub mod Laws
