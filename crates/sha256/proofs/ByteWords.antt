@@ -1,13 +1,13 @@
--- The bytes of one word more, and the words of a block that is cut from a longer list.
+-- The bytes of one word more, a length in its eight bytes, and the words of a block that is cut from a longer list.
 -- Assumes nothing.
-use mathlib.Core.Path.{_≡_, refl}
-use mathlib.Core.List.{List, [], _∷_, _++_, append-assoc}
+use mathlib.Core.Path.{_≡_, refl, sym, _∙_, ap}
+use mathlib.Core.List.{List, [], _∷_, _++_, append-assoc, append-nil}
 use Prim.Native.Nat.{ℕ, zero, suc, _+_, _*_, _/_, _%_, _^_, _≤_, _<_}
 use native.Mathlib.Nat.{add-assoc, div-one}
 use native.Mathlib.Numerals.{add-one}
 use native.Mathlib.Omega.{arith}
-use lib.ListN.{length, take, drop, getD}
-use lib.Seq.{take-suc, getD-take, getD-drop}
+use lib.ListN.{length, take, drop, getD, drop-of-length-le}
+use lib.Seq.{take-suc, getD-take, getD-drop, sets, sets-eq}
 use Rattle.seqs.specs.Tab.{tab}
 use Rattle.seqs.specs.Padding.{inBytes, big}
 use Rattle.sha256.specs.Words.{bytesOf, word, wordAt, wordsOf}
@@ -26,9 +26,17 @@ eight x =
     x / 2 ^ 56 % 256 ∷ x / 2 ^ 48 % 256 ∷ x / 2 ^ 40 % 256 ∷ x / 2 ^ 32 % 256 ∷ x / 2 ^ 24 % 256
     ∷ x / 2 ^ 16 % 256 ∷ x / 2 ^ 8 % 256 ∷ x % 256 ∷ []
 
-pub eight-bytes : (x : ℕ) → inBytes big 8 x ≡ eight x
+eight-bytes : (x : ℕ) → inBytes big 8 x ≡ eight x
 unfolding inBytes tab
 eight-bytes x = rw div-one
+
+-- eight stores behind the first 56 bytes
+pub length-put : (b : List ℕ) (x : ℕ) → length b ≡ 64 → sets b 56 (eight x) ≡ take 56 b ++ inBytes big 8 x
+length-put b x e =
+    sets-eq (eight x) b 56 (omega arith)
+    ∙ ap (λ (l : List ℕ). take 56 b ++ eight x ++ l) (drop-of-length-le b {i = 64} (omega arith))
+    ∙ append-nil (take 56 b ++ eight x)
+    ∙ ap (λ (l : List ℕ). take 56 b ++ l) (sym (eight-bytes x))
 
 bytesOf-append : (xs ys : List ℕ) → bytesOf (xs ++ ys) ≡ bytesOf xs ++ bytesOf ys
 unfolding bytesOf

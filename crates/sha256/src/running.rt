@@ -15,7 +15,7 @@ use refusal::Refusal;
 #[repr(C)]
 pub struct Hash {
     pub state: State,
-    // what is left of the message behind its whole blocks: length % 64 bytes
+    // what is left of the message behind its whole blocks: length % 64 bytes, and zeros behind them
     pub tail: [u8; 64],
     // every byte taken so far
     pub length: u64,
@@ -44,19 +44,6 @@ pub(crate) fn fill(tail: &mut [u8; 64], at: usize, b: &[u8], from: usize, n: usi
     let mut i = 0;
     while i < n {
         tail[at + i] = b[from + i];
-        i += 1;
-    }
-}
-
-// A one bit behind the first at bytes, and zeros to the end of the block.
-fn seal(block: &mut [u8; 64], at: usize)
-    requires { ⌜ (length (now block) ≡ 64) × (at < 64) ⌝ }
-    ensures { λ _. ⌜ now (block .exit) ≡ take at (now (block .entry)) ++ (128 ∷ replicate (63 - at) 0) ⌝ }
-{
-    block[at] = 128;
-    let mut i = at + 1;
-    while i < 64 {
-        block[i] = 0;
         i += 1;
     }
 }
@@ -111,6 +98,7 @@ impl Hash {
         fill(&mut next.tail, at, bytes, 0, 64 - at);
         let first = state.compress(&next.tail, 0);
         next.state = first.blocks(bytes, 64 - at);
+        next.tail = [0; 64];
         fill(&mut next.tail, 0, bytes, n - left, left);
         next
     }
@@ -152,7 +140,7 @@ impl Hash {
         let at = (self.length % 64) as usize;
         let mut block = self.tail;
         let mut state = self.state;
-        seal(&mut block, at);
+        block[at] = 128;
         if 56 <= at {
             state = state.compress(&block, 0);
             block = [0; 64];

@@ -29,7 +29,7 @@ returns c =
     record {
       refusal = c .refuse2 .ensures ∙ ap refusalOf (sym (number-over (a .self .length) (length (a .bytes .now)) w));
       refused = λ _. refl;
-      runs = λ m h g. absurd (omega (arith, h .holds .taken));
+      runs = λ m h g. absurd (omega (arith, h .holds .counted));
     }
 
 more-requires : tie.Need-more-requires

@@ -1,0 +1,4 @@
+pub mod Blocks
+pub mod Zeros
+pub mod Taking
+pub mod Ending
