@@ -8,7 +8,8 @@ use native.Mathlib.Nat.{mul-suc, mul-comm, div-add-mod', mod-lt}
 use native.Mathlib.Omega.{arith}
 use lib.ListN.{length, length-append}
 use lib.Seq.{length-take-le}
-use Rattle.seqs.specs.Bytes.{Bytes, bytes-none, bytes-append, bytes-take}
+use Rattle.seqs.specs.Bytes.{Bytes}
+use Rattle.seqs.proofs.Bytes.{bytes-none, bytes-append, bytes-take}
 use Rattle.prf.specs.Hash.{HashFunction, Lawful}
 use Rattle.prf.specs.Hmac.{hmac}
 use Rattle.prf.specs.Prf.{expansion, parts, prf}

@@ -4,17 +4,19 @@
 use mathlib.Core.Path.{_≡_, refl, sym, _∙_, ap, ap₂}
 use mathlib.Core.List.{List, _∷_, _++_, append-assoc}
 use Prim.Native.Nat.{ℕ, zero, suc, _+_, _-_, _*_, _/_, _%_, _≤_, _<_}
-use native.Mathlib.Nat.{mul-add, mul-suc, mul-zero, mul-one, add-zero, sub-zero, mul-mod-right, mod-self, mod-eq-of-lt, mul-div-right}
+use native.Mathlib.Nat.{mul-add, mul-suc, mul-zero, mul-one, add-zero, sub-zero, mul-mod-right, add-mod-mod, mod-lt, div-add-mod, mod-self, mod-eq-of-lt, mul-div-right}
 use native.Mathlib.Omega.{arith}
 use borrow.Author.Tests.{ltb-true, ltb-false}
 use lib.Dec.{ltb}
 use lib.ListN.{length, take, drop, set, replicate, length-append, length-replicate, replicate-append-replicate}
 use lib.Seq.{take-all, take-at, drop-at, set-at, drop-append-le}
 use Rattle.seqs.specs.Blocks.{after}
-use Rattle.seqs.specs.Padding.{ByteOrder, pad, padding, zeros, inBytes, length-inBytes}
+use Rattle.seqs.specs.Words.{ByteOrder, inBytes}
+use Rattle.seqs.specs.Padding.{pad, padding, zeros}
 use Rattle.seqs.specs.Taken.{leftOf, Holds}
 use Rattle.seqs.specs.Cases.{by-test}
 use Rattle.seqs.proofs.Blocks.{after-append, after-from}
+use Rattle.seqs.proofs.Words.{length-inBytes}
 use Rattle.seqs.proofs.Zeros.{take-zeros}
 use Rattle.seqs.proofs.Taking.{split, room, length-left, rest-of}
 
@@ -29,6 +31,16 @@ zeros-are size width n (suc z) (suc q) s h e =
     let a : (n + 1 + width) % size ≡ size - suc z = rest-of size s q (size - suc z) f (omega arith) in
     let b : size - (size - suc z) ≡ suc z = omega arith in
     ap (λ (i : ℕ). (size - i) % size) a ∙ ap (λ (i : ℕ). i % size) b ∙ mod-eq-of-lt h
+
+-- 'to a multiple of the block': a padded message is whole blocks
+pub whole : (size width : ℕ) (order : ByteOrder) (m : List ℕ) → 0 < size → length (pad size width order m) % size ≡ 0
+unfolding padding
+whole size width order m h =
+    let n = length m + 1 + width in
+    let q = n / size in
+    let e : length (pad size width order m) ≡ n + zeros size width (length m) = simp (length-append, length-replicate, length-inBytes) (omega arith) in
+    let f : n + (size - n % size) ≡ size * suc q = omega (arith, mod-lt n h, div-add-mod n size, mul-suc size q) in
+    ap (λ (i : ℕ). i % size) e ∙ add-mod-mod n (size - n % size) size ∙ ap (λ (i : ℕ). i % size) f ∙ mul-mod-right size (suc q)
 
 module _ {S : Type 0} (size : ℕ) (positive : 0 < size) (step : S → List ℕ → S) (initial : S) where
   -- what follows whole blocks depends on the hash value there and on the rest alone

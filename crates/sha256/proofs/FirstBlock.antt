@@ -11,7 +11,9 @@ use Rattle.seqs.proofs.Blocks.{after-append}
 use Rattle.seqs.proofs.Taking.{none-waits}
 use Rattle.seqs.proofs.Ending.{one-block, finished-one}
 use Rattle.seqs.specs.Tab.{tab}
-use Rattle.seqs.specs.Padding.{inBytes, big, length-inBytes}
+use Rattle.seqs.specs.Words.{big, inBytes}
+use Rattle.seqs.proofs.Words.{length-inBytes}
+use Rattle.sha256.specs.Layout.{valueOf}
 use Rattle.sha256.specs.Constants.{initial}
 use Rattle.sha256.specs.Compress.{step, output}
 use Rattle.sha256.specs.Sha256.{hashed, sha256}
@@ -27,7 +29,7 @@ pub length-lastBlock : (d : List ℕ) → length d ≡ 32 → length (lastBlock 
 length-lastBlock d e = simp (length-append, length-inBytes) (omega arith)
 
 module _ {s : State} {k : List ℕ} (b : Begins s k) where
-  taken-one : s ≡ hashed initial 1 k
+  taken-one : valueOf s ≡ hashed initial 1 k
   taken-one = b .value ∙ sym (one-block 64 (omega arith) step initial initial k (b .whole))
 
   -- nothing waits
@@ -46,7 +48,7 @@ module _ {s : State} {k : List ℕ} (b : Begins s k) where
 
   module _ (d : List ℕ) (e : length d ≡ 32) where
     -- 32 bytes wait
-    waiting-by : Holds 64 step initial s (d ++ replicate 32 0) 96 (k ++ d)
+    waiting-by : Holds 64 step initial (valueOf s) (d ++ replicate 32 0) 96 (k ++ d)
     waiting-by =
         let n : length (k ++ d) ≡ 96 = simp length-append (omega (arith, b .whole)) in
         record {
@@ -60,7 +62,7 @@ module _ {s : State} {k : List ℕ} (b : Begins s k) where
           counted = sym n;
         }
 
-    pub begun-digest : sha256 (k ++ d) ≡ output (step s (lastBlock d))
+    pub begun-digest : sha256 (k ++ d) ≡ output (step (valueOf s) (lastBlock d))
     unfolding sha256
     begun-digest =
         let q : List ℕ = 128 ∷ replicate 31 0 in
@@ -73,8 +75,8 @@ module _ {s : State} {k : List ℕ} (b : Begins s k) where
         ∙ take-append-add d q 24 in
         ap output
         (finished-one 64 (omega arith) step initial (k ++ d) waiting-by 32 at 8 big (omega arith) (omega arith)
-        ∙ ap₂ (λ (l : List ℕ) (i : ℕ). step s (l ++ inBytes big 8 (8 * i))) v n
-        ∙ ap (step s) (append-assoc d (128 ∷ replicate 23 0) (inBytes big 8 768)))
+        ∙ ap₂ (λ (l : List ℕ) (i : ℕ). step (valueOf s) (l ++ inBytes big 8 (8 * i))) v n
+        ∙ ap (step (valueOf s)) (append-assoc d (128 ∷ replicate 23 0) (inBytes big 8 768)))
 
 -- and this is what `ended_by` lays out
 pub laid-out : (d : List ℕ) (e : length d ≡ 32) → set (set (paste (replicate 64 0) 0 d 32) 32 128) 62 3 ≡ lastBlock d

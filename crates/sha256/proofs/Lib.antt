@@ -1,4 +1,3 @@
-pub mod Bitwise
 pub mod ByteWords
 pub mod Alone
 pub mod FirstBlock

@@ -1,4 +1,4 @@
--- What the parts above may use of a hash, whatever its layout.
+-- Laws: what the parts above may use of a hash, whatever its layout.
 -- Assumes nothing.
 use mathlib.Core.Path.{_≡_, refl, ap}
 use mathlib.Core.List.{List, [], _∷_}
@@ -8,12 +8,13 @@ use native.Mathlib.Omega.{arith}
 use borrow.Author.Tests.{lt-ltb, le-ltb, ltb-true, ltb-false}
 use lib.Dec.{ltb}
 use lib.ListN.{length, length-append}
+use Rattle.seqs.specs.Bytes.{Bytes}
+use Rattle.seqs.specs.Words.{big, bytesOf}
+use Rattle.seqs.proofs.Words.{length-inBytes}
+use Rattle.seqs.proofs.Bytes.{bytes-bytesOf}
 use Rattle.seqs.proofs.Ending.{same-end}
-use Rattle.seqs.specs.Bytes.{Bytes, bytes-none, bytes-append, bytes-inBytes}
-use Rattle.seqs.specs.Padding.{inBytes, big, length-inBytes}
 use Rattle.refusal.specs.First.{firstOf}
 use Rattle.refusal.specs.Table.{refusalOf}
-use Rattle.sha256.specs.Words.{bytesOf}
 use Rattle.sha256.specs.Constants.{initial}
 use Rattle.sha256.specs.Compress.{step, output}
 use Rattle.sha256.specs.Sha256.{sha256}
@@ -68,14 +69,9 @@ pub length-sha256 : (m : List ℕ) → length (sha256 m) ≡ 32
 unfolding sha256 output bytesOf
 length-sha256 m = simp (length-append, length-inBytes)
 
-bytes-bytesOf : (ws : List ℕ) → Bytes (bytesOf ws)
-unfolding bytesOf
-bytes-bytesOf [] = bytes-none
-bytes-bytesOf (x ∷ xs) = bytes-append (inBytes big 4 x) (bytesOf xs) (bytes-inBytes big 4 x) (bytes-bytesOf xs)
-
 pub bytes-sha256 : (m : List ℕ) → Bytes (sha256 m)
 unfolding sha256 output
-bytes-sha256 m = bytes-bytesOf _
+bytes-sha256 m = bytes-bytesOf big 4 _
 
 -- the digest of the one-shot call, within the bound
 pub digested-within : (m : List ℕ) → length m ≤ most → digestedOf m .digest ≡ sha256 m

@@ -5,6 +5,7 @@ use mathlib.Core.List.{List}
 use Prim.Native.Nat.{ℕ, _≤_}
 use lib.ListN.{length}
 use Rattle.seqs.specs.Taken.{Holds}
+use Rattle.sha256.specs.Layout.{valueOf}
 use Rattle.sha256.specs.Constants.{initial}
 use Rattle.sha256.specs.Compress.{step}
 use Rattle.sha256.specs.declared.running.Hash.{Hash}
@@ -16,7 +17,7 @@ most = 1048576
 -- the hash has taken m, and nothing else, from fresh: the whole blocks of m are in the state, the rest of m waits in the tail, with
 -- zeros behind it, and the length is that of m
 pub record Running (hash : Hash) (m : List ℕ) : Type 0 where
-  pub holds : Holds 64 step initial (hash .state) (hash .tail) (hash .length) m
+  pub holds : Holds 64 step initial (valueOf (hash .state)) (hash .tail) (hash .length) m
   pub bounded : length m ≤ most
 
 -- so a running hash is one value for one message, however it was cut into pieces. The proof is proofs/Alone.antt.

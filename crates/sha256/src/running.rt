@@ -5,7 +5,7 @@ ghost use Prim.Native.Nat.{ℕ, _+_, _-_, _≤_, _<_};
 ghost use lib.Dec.{ltb};
 ghost use lib.ListN.{length, take, drop, replicate};
 ghost use lib.Seq.{paste};
-ghost use Rattle.seqs.specs.Padding.{inBytes, big};
+ghost use Rattle.seqs.specs.Words.{big, inBytes};
 ghost use Rattle.sha256.specs.Running.{Running, taken, most};
 ghost use Rattle.sha256.specs.Sha256.{sha256};
 ghost use Rattle.sha256.specs.Promise.{Absorbs, digestedOf};

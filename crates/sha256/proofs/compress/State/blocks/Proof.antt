@@ -5,6 +5,7 @@ use Prim.Native.Nat.{suc, _+_, _-_, _/_, _%_, _≤_}
 use lib.ListN.{length, drop}
 use Rattle.sha256.specs.Sha256.{hashed}
 use Rattle.seqs.proofs.Blocks.{after-none, after-more}
+use Rattle.sha256.specs.Layout.{valueOf}
 use Rattle.sha256.specs.Compress.{step}
 use native.Mathlib.Omega.{arith}
 use borrow.Author.Needs.{needs}
@@ -12,7 +13,7 @@ use Rattle.sha256.proofs.compress.State.blocks.Statement.{statement}
 use Rattle.sha256.proofs.compress.State.blocks.Tie as tie
 
 abbrev Inv-loop : tie.InvT-loop
-Inv-loop b from v₀ at₀ v at = (from ≤ at) × (at ≤ length b) × ((at - from) % 64 ≡ 0) × (v ≡ hashed v₀ ((at - from) / 64) (drop from b))
+Inv-loop b from v₀ at₀ v at = (from ≤ at) × (at ≤ length b) × ((at - from) % 64 ≡ 0) × (valueOf v ≡ hashed (valueOf v₀) ((at - from) / 64) (drop from b))
 
 abbrev μ-loop : tie.MeasureT-loop
 μ-loop b from v₀ at₀ v at = length b - at

@@ -6,6 +6,7 @@ use Prim.Native.Nat.{ℕ}
 use native.Mathlib.Omega.{arith}
 use lib.ListN.{length, set}
 use lib.Seq.{take-all}
+use Rattle.sha256.specs.Layout.{valueOf}
 use Rattle.sha256.specs.Compress.{step, output}
 use Rattle.sha256.proofs.FirstBlock.{begun-digest, lastBlock, length-lastBlock, laid-out}
 use borrow.Author.Needs.{needs}
@@ -51,7 +52,7 @@ returns c k h =
     let n : length d ≡ 32 = search needs in
     let f = c .before .before .before in
     c .output .ensures
-    ∙ ap output (c .before .compress .ensures ∙ ap (step (f .before .before .before .args .self)) (take-all 64 _ (omega (arith, laid-long f)) ∙ laid f))
+    ∙ ap output (c .before .compress .ensures ∙ ap (step (valueOf (f .before .before .before .args .self))) (take-all 64 _ (omega (arith, laid-long f)) ∙ laid f))
     ∙ sym (begun-digest h d n)
 
 pub ended-by-spec : {M : Type 1} → statement M

@@ -7,13 +7,15 @@ use Prim.Native.Nat.{ℕ, _+_, _*_, _/_, _%_}
 use native.Mathlib.Omega.{arith}
 use lib.ListN.{length, take, set, length-append, length-set}
 use lib.Seq.{take-all, length-take-le}
-use Rattle.seqs.specs.Padding.{inBytes, big, length-inBytes}
+use Rattle.seqs.specs.Words.{big, inBytes}
+use Rattle.seqs.proofs.Words.{length-inBytes}
 use Rattle.seqs.proofs.Ending.{finished-one, finished-two}
+use Rattle.sha256.specs.Value.{Value}
+use Rattle.sha256.specs.Layout.{valueOf}
 use Rattle.sha256.specs.Constants.{initial}
 use Rattle.sha256.specs.Compress.{step, output}
 use Rattle.sha256.specs.Sha256.{padded, hashed, sha256}
 use Rattle.sha256.specs.Running.{Running}
-use Rattle.sha256.specs.declared.compress.State.{State}
 use borrow.Author.Needs.{needs}
 use Rattle.sha256.proofs.running.Hash.digest.Statement.{statement}
 use Rattle.sha256.proofs.running.Hash.digest.Tie as tie
@@ -37,17 +39,17 @@ joined-long c = ⊎-elim (λ w. ap length (w .3)) (λ w. ap length (w .1) ∙ se
 
 -- and with the length in it, it is the last block of the padded message
 joined-last : (c : tie.Joined2) (m : List ℕ) → Running (c .before .before .before .before .before .before .args .self) m
-    → step (c .if2 .state) (take 56 (c .if2 .block) ++ inBytes big 8 (8 * length m)) ≡ hashed initial (length (padded m) / 64) (padded m)
+    → step (valueOf (c .if2 .state)) (take 56 (c .if2 .block) ++ inBytes big 8 (8 * length m)) ≡ hashed initial (length (padded m) / 64) (padded m)
 joined-last c m h =
     let s = c .before .before .before .before .before .before .args .self in
     let l = inBytes big 8 (8 * length m) in
     let e : s .length % 64 ≡ length m % 64 = ap (λ (i : ℕ). i % 64) (h .holds .counted) in
     ⊎-elim
     (λ w.
-    ap₂ (λ (x : State) (q : List ℕ). step x (take 56 q ++ l)) (w .4 ∙ w .2 .ensures ∙ ap (step (s .state)) (take-all 64 (sealed (c .before)) (omega (arith, sealed-long (c .before))))) (w .3)
+    ap₂ (λ (x : Value) (q : List ℕ). step x (take 56 q ++ l)) (ap valueOf (w .4) ∙ w .2 .ensures ∙ ap (step (valueOf (s .state))) (take-all 64 (sealed (c .before)) (omega (arith, sealed-long (c .before))))) (w .3)
     ∙ sym (finished-two 64 (omega arith) step initial m (h .holds) (s .length % 64) e 8 big (omega arith) (omega (arith, w .0 .taken))))
     (λ w.
-    ap₂ (λ (x : State) (q : List ℕ). step x (take 56 q ++ l)) (w .2) (w .1)
+    ap₂ (λ (x : Value) (q : List ℕ). step x (take 56 q ++ l)) (ap valueOf (w .2)) (w .1)
     ∙ sym (finished-one 64 (omega arith) step initial m (h .holds) (s .length % 64) e 8 big (omega arith) (omega (arith, w .0 .left))))
     (c .if2 .came)
 
@@ -94,7 +96,7 @@ returns-2 c m h =
     c .output .ensures
     ∙ ap output
     (c .before .compress2 .ensures
-    ∙ ap (step (j .if2 .state)) (take-all 64 (p .put-length .last .0) (omega (arith, last-long p)) ∙ p .put-length .ensures ∙ ap (λ (x : ℕ). take 56 (j .if2 .block) ++ inBytes big 8 x) n)
+    ∙ ap (step (valueOf (j .if2 .state))) (take-all 64 (p .put-length .last .0) (omega (arith, last-long p)) ∙ p .put-length .ensures ∙ ap (λ (x : ℕ). take 56 (j .if2 .block) ++ inBytes big 8 x) n)
     ∙ joined-last j m h)
 
 pub digest-spec : {M : Type 1} → statement M

@@ -6,9 +6,9 @@ use native.Mathlib.Omega.{arith}
 use lib.ListN.{replicate}
 use Rattle.seqs.specs.Taken.{Holds}
 use Rattle.seqs.proofs.Taking.{holds-none}
+use Rattle.sha256.specs.Value.{Value}
 use Rattle.sha256.specs.Constants.{initial}
 use Rattle.sha256.specs.Compress.{step}
-use Rattle.sha256.specs.declared.compress.State.{State}
 use borrow.Author.Needs.{needs}
 use Rattle.sha256.proofs.running.Hash.fresh.Statement.{statement}
 use Rattle.sha256.proofs.running.Hash.fresh.Tie as tie
@@ -19,7 +19,7 @@ initial-requires c κs = search needs
 returns : tie.Need-returns
 returns c =
     record {
-      holds = subst (λ (s : State). Holds 64 step initial s (replicate 64 0) 0 []) (sym (c .initial .ensures)) (holds-none 64 (omega arith) step initial);
+      holds = subst (λ (s : Value). Holds 64 step initial s (replicate 64 0) 0 []) (sym (c .initial .ensures)) (holds-none 64 (omega arith) step initial);
       bounded = omega arith;
     }
 

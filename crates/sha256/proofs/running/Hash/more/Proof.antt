@@ -128,7 +128,7 @@ returns-3 c m h w =
           (counted (c .before .before .before .before .before .before .before .before .before .before .before .before .before) m h w)
           (omega arith)
           (omega arith)
-          (first-block 64 (omega arith) step initial (s .state) (c .before .before .before .before .compress .result) (c .before .before .before .blocks3 .result) (s .tail) b at j t (omega arith) (omega arith) (rw (← c .before .before .before .before .before .before .before .before .fill3 .ensures) (c .before .before .before .before .compress .ensures)) (c .before .before .before .blocks3 .ensures))
+          (first-block 64 (omega arith) step initial _ _ _ (s .tail) b at j t (omega arith) (omega arith) (rw (← c .before .before .before .before .before .before .before .before .fill3 .ensures) (c .before .before .before .before .compress .ensures)) (c .before .before .before .blocks3 .ensures))
           (c .fill4 .ensures ∙ left-over 64 (take at (s .tail)) b (suc j) left (omega arith) (omega arith));
       bounded = simp length-append (omega arith);
     }

@@ -1,4 +1,4 @@
--- Ch and Maj of FIPS 180-4 by fewer operations.
+-- Ch and Maj of FIPS 180-4 by fewer operations, over the word's width.
 -- Assumes nothing.
 use mathlib.Core.Path.{_≡_, refl, sym, _∙_, ap, ap₂}
 use Prim.Native.Nat.{ℕ, zero, suc, _-_, _*_, _/_, _%_, _^_, _<_}
