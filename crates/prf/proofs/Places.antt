@@ -2,13 +2,13 @@
 -- Assumes nothing.
 use mathlib.Core.Path.{_≡_, _∙_, ap}
 use mathlib.Core.List.{List, [], _++_, append-assoc, append-nil}
-use Prim.Native.Nat.{ℕ, zero, suc, _+_, _-_, _≤_}
-use native.Mathlib.Nat.{sub-zero, zero-sub, suc-sub-suc}
+use Prim.Native.Nat.{ℕ, _+_, _-_, _≤_}
 use native.Mathlib.Omega.{arith}
 use borrow.Author.Tests.{le-leb}
 use borrow.Rule.Slice.PartMut.{midOf, putMid}
 use lib.ListN.{length, take, drop, replicate, length-drop, length-replicate, drop-of-length-le}
 use lib.Seq.{paste, take-all, take-length, drop-drop}
+use Rattle.seqs.proofs.Zeros.{drop-zeros}
 use Rattle.octets.specs.Put.{putList}
 
 -- s put to the front of what stands from index at on is pasted there
@@ -22,11 +22,6 @@ put-at {p} d s at h e =
     ap (λ (r : List ℕ). take at d ++ (p ++ r)) o
     ∙ (rw (append-nil, take-length, append-assoc) (ap (λ (r : List ℕ). take at d ++ r) q))
 
-drop-zeros : (n i : ℕ) → drop {A = ℕ} i (replicate n 0) ≡ replicate (n - i) 0
-drop-zeros n zero = rw sub-zero
-drop-zeros zero (suc i) = rw zero-sub
-drop-zeros (suc n) (suc i) = rw suc-sub-suc (drop-zeros n i)
-
 -- k put to the front of n zeros
 pub put-zeros : {p : List ℕ} (k : List ℕ) (n : ℕ) → length k ≤ n → p ≡ putList (replicate n 0) k → p ≡ k ++ replicate (n - length k) 0
-put-zeros k n h e = rw (← drop-zeros n (length k)) (rw (length-replicate, le-leb (length k) n h) at e)
+put-zeros k n h e = rw (← drop-zeros (length k) n) (rw (length-replicate, le-leb (length k) n h) at e)
