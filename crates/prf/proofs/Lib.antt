@@ -1,6 +1,5 @@
 pub mod Sha256
 pub mod Lengths
-pub mod Places
 pub mod Masks
 pub mod Numbers
 pub mod Answers

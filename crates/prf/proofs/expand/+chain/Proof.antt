@@ -5,7 +5,7 @@ use mathlib.Core.List.{_++_}
 use lib.ListN.{length}
 use native.Mathlib.Omega.{arith}
 use Rattle.prf.proofs.Sha256.{sha256-lawful}
-use Rattle.prf.proofs.Places.{put-at}
+use Rattle.octets.proofs.Places.{put-at}
 use Rattle.prf.proofs.Chains.{chain-none, chain-more}
 use borrow.Author.Needs.{needs}
 use Prim.Native.Nat.{ℕ, _-_, _*_, _<_}

@@ -6,7 +6,7 @@ use native.Mathlib.Omega.{arith}
 use lib.ListN.{length, take}
 use lib.Seq.{length-take-le}
 use Rattle.prf.proofs.Sha256.{sha256-lawful}
-use Rattle.prf.proofs.Places.{put-at}
+use Rattle.octets.proofs.Places.{put-at}
 use Rattle.prf.proofs.Chains.{chain-end}
 use borrow.Author.Needs.{needs}
 use Rattle.prf.proofs.expand.expand.Statement.{statement}

@@ -1,7 +1,7 @@
 -- The key, put to the front of zeros.
 -- Assumes nothing.
 use native.Mathlib.Omega.{arith}
-use Rattle.prf.proofs.Places.{put-zeros}
+use Rattle.octets.proofs.Places.{put-zeros}
 use borrow.Author.Needs.{needs}
 use Rattle.prf.proofs.keyed.padded.Statement.{statement}
 use Rattle.prf.proofs.keyed.padded.Tie as tie

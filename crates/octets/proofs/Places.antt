@@ -1,4 +1,4 @@
--- Bytes put to a place: to the front of an array of zeros, and from an index of a lent buffer on. Every copy of this crate is one of them.
+-- Bytes put to a place: to the front of an array of zeros, and from an index of a lent buffer or of an array on. Every copy of bytes is one of these.
 -- Assumes nothing.
 use mathlib.Core.Path.{_≡_, _∙_, ap}
 use mathlib.Core.List.{List, [], _++_, append-assoc, append-nil}
