@@ -122,6 +122,7 @@ returns-3 c m h w =
     let g : 64 - at ≤ length b = c .before .before .before .before .before .before .before .before .before .before .before .before .if1 .left in
     let p : length (take at (s .tail)) ≡ at = length-take-le at (s .tail) (omega arith) in
     let e : at ≡ length m % 64 = ap (λ (i : ℕ). i % 64) (h .holds .counted) in
+    let f : c .fill4 .last .0 ≡ paste (replicate 64 0) 0 (drop (length b - left) b) left = c .fill4 .ensures in
     record {
       holds =
           holds-more 64 (omega arith) step initial m b (h .holds) at (suc j) left e
@@ -129,7 +130,7 @@ returns-3 c m h w =
           (omega arith)
           (omega arith)
           (first-block 64 (omega arith) step initial _ _ _ (s .tail) b at j t (omega arith) (omega arith) (rw (← c .before .before .before .before .before .before .before .before .fill3 .ensures) (c .before .before .before .before .compress .ensures)) (c .before .before .before .blocks3 .ensures))
-          (c .fill4 .ensures ∙ left-over 64 (take at (s .tail)) b (suc j) left (omega arith) (omega arith));
+          (f ∙ left-over 64 (take at (s .tail)) b (suc j) left (omega arith) (omega arith));
       bounded = simp length-append (omega arith);
     }
 
