@@ -9,6 +9,8 @@ import traceback
 ROOT = pathlib.Path(__file__).resolve().parent.parent
 sys.path.insert(0, str(ROOT))
 
+from tests import Missing  # noqa: E402  (the path above leads to it)
+
 
 def main(names):
     passed = failed = 0
@@ -30,6 +32,10 @@ def main(names):
                 said = test()
                 passed += 1
                 verdict = "passed"
+            except Missing as missing:
+                said = missing
+                failed += 1
+                verdict = "FAILED"
             except Exception:
                 traceback.print_exc()
                 said = None
