@@ -140,7 +140,7 @@ def test_copies_that_differ():
     first = next(s for s in TALK if s.payload)
     other = first._replace(payload=first.payload[:-1] + b"\xee")
     status, messages, said = answer(wire.pcap(frames(TALK[:5] + [other] + TALK[5:])))
-    assert (status, messages) == (3, CLEAR) and "other bytes than the first copy" in said
+    assert (status, messages) == (3, CLEAR) and "the first copy is taken" in said
     alive = TALK[9]._replace(sequence=TALK[9].sequence - 1, payload=b"\x00")
     assert TALK[9].from_client is False and TALK[9].payload
     whole(wire.pcap(frames(TALK[:9] + [alive] + TALK[9:])))
@@ -158,6 +158,15 @@ def test_sequence_numbers_wrap():
     for start in ((2**32 - 1, 2**32 - 150), (2**32 - 1000, 0), (0, 2**31 - 5)):
         whole(wire.pcap(frames(wire.talk(FLIGHTS, 100, start))))
         whole(wire.pcap(frames(wire.talk(FLIGHTS, 100, start)[3:])))
+
+
+def test_resets():
+    """The numbers of a reset need not be the stream's, and what it carries is none of it."""
+    for reset in (
+        TALK[3]._replace(flags=wire.RST | wire.ACK, sequence=0, acknowledged=2**31, payload=b"gone"),
+        TALK[-1]._replace(flags=wire.RST, sequence=9_999),
+    ):
+        whole(wire.pcap(frames(TALK[:6] + [reset] + TALK[6:] + [reset])))
 
 
 def test_links():
@@ -178,7 +187,13 @@ def test_links():
 def test_links_that_are_not_known():
     status, messages, said = answer(wire.pcap(frames(TALK), 127))
     assert status == 1 and messages is None and "link type 127" in said and "Ethernet (1)" in said
-    mixed = wire.section() + wire.interface(127) + wire.interface() + wire.enhanced(b"radio") + b"".join(wire.enhanced(f, number=1) for f in frames(TALK))
+    mixed = (
+        wire.section()
+        + wire.interface(127)
+        + wire.interface()
+        + wire.enhanced(b"radio")
+        + b"".join(wire.enhanced(f, number=1) for f in frames(TALK))
+    )
     status, messages, said = answer(mixed)
     assert (status, messages) == (0, CLEAR) and "1 packets of link type 127 are passed over" in said
 
@@ -223,7 +238,8 @@ def test_the_first_connection_with_a_client_hello():
     unanswered = [wire.talk([], ports=(40_001, 443))[0]]
     whole(wire.pcap(frames(http + unanswered + TALK + wire.talk(FLIGHTS[:1], ports=(40_002, 443)))))
     again = wire.talk([(True, b"GET / HTTP/1.1\r\n\r\n")], start=(7_000, 8_000))  # the same ports before
-    whole(wire.pcap(frames(again + TALK)))
+    for talk in (TALK, TALK[1:], TALK[:1] + TALK[2:]):  # with both SYNs, or one of them
+        whole(wire.pcap(frames(again + talk)))
     mixed = [s for pair in zip(TALK, wire.talk(FLIGHTS, ports=(40_003, 443))) for s in pair]  # two at the same time
     whole(wire.pcap(frames(mixed)))
     assert answer(wire.pcap(frames(http))) == (1, None, "none of its 1 TCP connections has a ClientHello (--list shows them)\n")
@@ -278,7 +294,10 @@ def test_one_direction_alone():
 def test_every_snap_length():
     made, some = frames(wire.talk(FLIGHTS, 700)), 0
     for snap in range(len(max(made, key=len)) + 2):
-        for data in (wire.pcap(made, snap=snap), wire.section() + wire.interface() + b"".join(wire.enhanced(f, cut=snap) for f in made)):
+        for data in (
+            wire.pcap(made, snap=snap),
+            wire.section() + wire.interface() + b"".join(wire.enhanced(f, cut=snap) for f in made),
+        ):
             status, messages, said = answer(data)
             if snap < len(max(made, key=len)):
                 assert status in (1, 3, 4) and is_prefix(messages) and said, (snap, status)
@@ -327,7 +346,11 @@ def test_a_handshake_under_way():
     _, _, said = answer(wire.pcap(frames(TALK[:3] + under_way)))
     assert "does not end" in said
     hello = [i for i, s in enumerate(TALK) if s.payload and not s.from_client][0]
-    assert answer(wire.pcap(frames(TALK[:hello]))) == (0, CLEAR[:1], "make-case: note: the capture ends while the handshake is under way\n")
+    assert answer(wire.pcap(frames(TALK[:hello]))) == (
+        0,
+        CLEAR[:1],
+        "make-case: note: the capture ends while the handshake is under way\n",
+    )
     status, messages, said = answer(wire.pcap(frames(wire.talk([FLIGHTS[0], (False, b"HTTP/1.1 400 Bad Request\r\n")]))))
     assert (status, messages) == (3, CLEAR[:1]) and "no TLS record from its byte 1 on" in said
 
@@ -344,8 +367,10 @@ def test_damaged_files():
         data = bytearray(good[i % len(good)])
         for _ in range(r.choice((1, 2, 5, 50))):
             at = r.randrange(len(data))
-            data[at : at + r.choice((0, 1, 1, 4))] = r.choice((r.randbytes(1), r.randbytes(4), b"\xff\xff\xff\xff", bytes(4), b""))
-        data = bytes(data[: r.choice((len(data), len(data), r.randrange(len(data)))) ])
+            data[at : at + r.choice((0, 1, 1, 4))] = r.choice(
+                (r.randbytes(1), r.randbytes(4), b"\xff\xff\xff\xff", bytes(4), b"")
+            )
+        data = bytes(data[: r.choice((len(data), len(data), r.randrange(len(data))))])
         status, messages, said = answer(data)
         assert status in (0, 1, 3, 4) and (messages is None) == (status == 1) and (status == 0 or said), (i, status, said)
         with contextlib.suppress(make_case.Unreadable), contextlib.redirect_stderr(io.StringIO()):
@@ -427,14 +452,26 @@ def test_what_cannot_be_read():
     for way in ((), ("--capture",)):
         refused(run(*way, "/none"), "/none: No such file or directory")
         refused(run(*way, "/"), "/: Is a directory")
-    refused(run(data=b"", shell="<&-"), "standard input is closed")
+        refused(run(*way, ""), "No such file or directory")
+    refused(run(data=b"", shell="<&-"), "standard input: it is closed")
     refused(run(data=b"", shell="</"), "Is a directory")
-    for data, reason in ((b"0100\n01zz\n", "line 2 is not a message in hex: '01zz'"), (b"010", "line 1"), (b"\xff\x00", "line 1"), (b"", "no message"), (b"# none\n", "no message")):
+    for data, reason in (
+        (b"0100\n01zz\n", "line 2 is not a message in hex: '01zz'"),
+        (b"010", "line 1"),
+        (b"\xff\x00", "line 1"),
+        (b"", "no message"),
+        (b"# none\n", "no message"),
+    ):
         refused(run(data=data), reason)
         with captured(data) as path:
             refused(run(path), reason)
     gzipped = gzip.compress(wire.pcap(frames(TALK)))
-    for data, reason in ((b"", "an empty file"), (b"abc", "neither pcap nor pcapng"), (gzipped, "gunzip"), (b"\xd4\xc3\xb2\xa1", "24 bytes")):
+    for data, reason in (
+        (b"", "an empty file"),
+        (b"abc", "neither pcap nor pcapng"),
+        (gzipped, "gunzip"),
+        (b"\xd4\xc3\xb2\xa1", "24 bytes"),
+    ):
         with captured(data) as path:
             refused(run("--capture", path), reason)
             refused(run("--capture", path, "--list"), reason)
@@ -451,16 +488,25 @@ def test_a_capture_on_standard_input_is_taken_as_one():
 def test_what_cannot_be_written():
     sample = ROOT / "examples/cases/full-handshake.txt"
     refused(run(sample, shell=">/dev/full"), "standard output: No space left on device")
-    refused(run(sample, shell=">&-"), "standard output is closed")
+    refused(run(sample, shell=">&-"), "standard output: it is closed")
     said = run(sample, shell="| true; exit ${PIPESTATUS[0]}")
     assert said.returncode in (0, 1) and b"Traceback" not in said.stderr
     assert run(sample, shell="2>&-").stdout == run(sample).stdout
 
 
 def test_usage():
-    for arguments in (("--capture",), ("--list",), ("--connection", "1"), ("a", "b"), ("--what",), ("--capture", "a", "--connection", "x")):
+    for arguments in (
+        ("--capture",),
+        ("--list",),
+        ("--connection", "1"),
+        ("a", "b"),
+        ("--what",),
+        ("--capture", "a", "--connection", "x"),
+    ):
         said = run(*arguments)
-        assert said.returncode == 2 and said.stdout == b"" and b"usage:" in said.stderr and b"Traceback" not in said.stderr, arguments
+        assert (
+            said.returncode == 2 and said.stdout == b"" and b"usage:" in said.stderr and b"Traceback" not in said.stderr
+        ), arguments
     assert b"--connection N" in run("--help").stdout
 
 
@@ -474,5 +520,10 @@ def test_statuses():
 
 
 def test_a_tool_that_is_missing_is_said_by_the_tests():
-    said = subprocess.run([sys.executable, ROOT / "tests/runner.py", "test_bindings"], env={**os.environ, "PATH": "/none"}, capture_output=True, text=True)
+    said = subprocess.run(
+        [sys.executable, ROOT / "tests/runner.py", "test_bindings"],
+        env={**os.environ, "PATH": "/none"},
+        capture_output=True,
+        text=True,
+    )
     assert said.returncode == 1 and "cargo is not installed" in said.stdout and "Traceback" not in said.stdout + said.stderr

@@ -39,16 +39,27 @@ def talk(flights, size=100, start=(100, 200), ports=(50_000, 443)):
 def tcp(s):
     ports = s.ports if s.from_client else s.ports[::-1]
     options = b"\x01\x01\x01\x00" if s.flags & SYN else b""
-    return struct.pack(">HHIIBBHHH", *ports, s.sequence, s.acknowledged, (5 + len(options) // 4) << 4, s.flags, 1024, 0, 0) + options + s.payload
+    return (
+        struct.pack(">HHIIBBHHH", *ports, s.sequence, s.acknowledged, (5 + len(options) // 4) << 4, s.flags, 1024, 0, 0)
+        + options
+        + s.payload
+    )
 
 
 def ip4(s, total=None, flags=0):
     data, ends = tcp(s), (b"\x0a\x00\x00\x01", b"\x0a\x00\x00\x02")[:: 1 if s.from_client else -1]
-    return struct.pack(">BBHHHBBH", 0x45, 0, 20 + len(data) if total is None else total, 7, flags, 64, 6, 0) + b"".join(ends) + data
+    return (
+        struct.pack(">BBHHHBBH", 0x45, 0, 20 + len(data) if total is None else total, 7, flags, 64, 6, 0)
+        + b"".join(ends)
+        + data
+    )
 
 
 def ip6(s, extensions=b"", first=6, length=None):
-    data, ends = extensions + tcp(s), (b"\xfd" + bytes(14) + b"\x01", b"\xfd" + bytes(14) + b"\x02")[:: 1 if s.from_client else -1]
+    data, ends = (
+        extensions + tcp(s),
+        (b"\xfd" + bytes(14) + b"\x01", b"\xfd" + bytes(14) + b"\x02")[:: 1 if s.from_client else -1],
+    )
     return struct.pack(">IHBB", 6 << 28, len(data) if length is None else length, first, 64) + b"".join(ends) + data
 
 

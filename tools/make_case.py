@@ -121,38 +121,48 @@ def from_capture(data, number):
 
 
 def read(path):
-    if path is not None:
-        with open(path, "rb") as file:
-            return file.read()
-    if sys.stdin is None:
-        raise Refused("standard input is closed")
-    return sys.stdin.buffer.read()
+    try:
+        if path is not None:
+            with open(path, "rb") as file:
+                return file.read()
+        if sys.stdin is not None:
+            return sys.stdin.buffer.read()
+    except OSError as failure:
+        raise Refused(failure.strerror) from None
+    raise Refused("it is closed")
 
 
 def write(data):
+    """Whether it is written."""
     if sys.stdout is None:
-        raise Refused("standard output is closed")
+        say("standard output: it is closed")
+        return False
     try:
         sys.stdout.buffer.write(data)
         sys.stdout.buffer.flush()
-    except OSError:
+        return True
+    except OSError as failure:
         os.dup2(os.open(os.devnull, os.O_WRONLY), sys.stdout.fileno())  # so that nothing more is said when Python closes it
-        raise
+        say(f"standard output: {failure.strerror}")
+        return False
 
 
 def arguments():
-    parser = argparse.ArgumentParser(prog="tools/make-case", usage="%(prog)s [FILE | --capture FILE [--list | --connection N]]", add_help=False)
+    parser = argparse.ArgumentParser(
+        prog="tools/make-case", usage="%(prog)s [FILE | --capture FILE [--list | --connection N]]", add_help=False
+    )
     parser.add_argument("file", nargs="?")
     parser.add_argument("--capture")
     parser.add_argument("--list", action="store_true")
     parser.add_argument("--connection", type=int)
     parser.add_argument("-h", "--help", action="store_true")
     asked = parser.parse_args()
-    if asked.file and asked.capture:
+    if asked.file is not None and asked.capture is not None:
         parser.error("one file, please")
+    asked.path = asked.file if asked.capture is None else asked.capture
     if asked.list and asked.connection is not None:
         parser.error("--list shows all connections, --connection takes one")
-    if (asked.list or asked.connection is not None) and not (asked.capture or asked.file):
+    if (asked.list or asked.connection is not None) and asked.path is None:
         parser.error("--list and --connection are for a capture")
     return asked
 
@@ -161,8 +171,8 @@ def made(asked):
     """What goes to standard output, and the status."""
     if asked.help:
         return __doc__.encode(), 0
-    data = read(asked.capture or asked.file)
-    if not asked.capture and not is_capture(data):
+    data = read(asked.path)
+    if asked.capture is None and not is_capture(data):
         if asked.list or asked.connection is not None:
             raise Refused("--list and --connection are for a capture, and this is neither pcap nor pcapng")
         return case(from_hex(data)), 0
@@ -174,17 +184,16 @@ def made(asked):
 
 def main():
     asked = arguments()
-    name = asked.capture or asked.file or "standard input"
     try:
         text, status = made(asked)
-        write(text)
-        return status
-    except OSError as failure:
-        say(f"{failure.filename or 'standard output'}: {failure.strerror}")
+        return status if write(text) else 1
     except (Refused, Unreadable) as refused:
-        say(f"{name}: {refused}")
+        reason = refused
     except MemoryError:
-        say(f"{name}: too large for this machine's memory")
+        reason = "too large for this machine's memory"
+    except KeyboardInterrupt:
+        reason = "interrupted"
+    say(f"{'standard input' if asked.path is None else ascii(asked.path)[1:-1] or 'the empty name'}: {reason}")
     return 1
 
 

@@ -16,7 +16,9 @@ class Capture:
         for link, count in sorted(self.unknown.items()):
             self.notes.append(f"{count} packets of link type {link} are passed over; known are {KNOWN}")
         if self.cut:
-            self.troubles.append(f"{len(self.cut)} packets, the first of them packet {self.cut[0]}, are cut before their TCP header ends")
+            self.troubles.append(
+                f"{len(self.cut)} packets, the first of them packet {self.cut[0]}, are cut before their TCP header ends"
+            )
         if self.unknown and not self.known:
             raise Unreadable(f"link type {min(self.unknown)} is not known here; known are {KNOWN}")
 

@@ -6,7 +6,13 @@ from typing import NamedTuple
 PCAP = {b"\xd4\xc3\xb2\xa1": "<", b"\x4d\x3c\xb2\xa1": "<", b"\xa1\xb2\xc3\xd4": ">", b"\xa1\xb2\x3c\x4d": ">"}
 PCAPNG = b"\x0a\x0d\x0d\x0a"
 PCAPNG_ORDER = {b"\x4d\x3c\x2b\x1a": "<", b"\x1a\x2b\x3c\x4d": ">"}
-COMPRESSED = {b"\x1f\x8b": "gunzip", b"\x28\xb5\x2f\xfd": "zstd -d", b"\x04\x22\x4d\x18": "lz4 -d", b"BZh": "bunzip2", b"\xfd7zXZ": "unxz"}
+COMPRESSED = {
+    b"\x1f\x8b": "gunzip",
+    b"\x28\xb5\x2f\xfd": "zstd -d",
+    b"\x04\x22\x4d\x18": "lz4 -d",
+    b"BZh": "bunzip2",
+    b"\xfd7zXZ": "unxz",
+}
 
 
 class Unreadable(Exception):
@@ -46,7 +52,9 @@ def _pcap(data, order, trouble):
             return trouble(f"the file ends early, in the header of packet {number}")
         captured, length = struct.unpack_from(order + "II", data, at + 8)
         if captured > len(data) - at - 16:
-            return trouble(f"the file ends early, or is broken: packet {number} should have {captured} bytes, and {len(data) - at - 16} are left")
+            return trouble(
+                f"the file ends early, or is broken: packet {number} should have {captured} bytes, and {len(data) - at - 16} are left"
+            )
         yield Packet(link, data[at + 16 : at + 16 + captured], max(captured, length))
         at, number = at + 16 + captured, number + 1
 
@@ -62,7 +70,9 @@ def _pcapng(data, trouble):
                 return trouble(f"the file is broken at byte {at}: a section in no known byte order")
         kind, size = struct.unpack_from(order + "II", data, at)
         if size > len(data) - at:
-            return trouble(f"the file ends early, or is broken: the block at byte {at} should have {size} bytes, and {len(data) - at} are left")
+            return trouble(
+                f"the file ends early, or is broken: the block at byte {at} should have {size} bytes, and {len(data) - at} are left"
+            )
         if size < 12 or data[at + size - 4 : at + size] != data[at + 4 : at + 8]:
             return trouble(f"the file is broken at byte {at}: a block whose two lengths differ")
         body = data[at + 8 : at + size - 4]

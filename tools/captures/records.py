@@ -40,7 +40,10 @@ class Records:
 
     def _whole(self):
         at = 0
-        while len(self.handshake) - at >= 4 + int.from_bytes(self.handshake[at + 1 : at + 4], "big") and len(self.handshake) - at >= 4:
+        while (
+            len(self.handshake) - at >= 4 + int.from_bytes(self.handshake[at + 1 : at + 4], "big")
+            and len(self.handshake) - at >= 4
+        ):
             end = at + 4 + int.from_bytes(self.handshake[at + 1 : at + 4], "big")
             yield bytes(self.handshake[at:end])
             at = end

@@ -123,8 +123,8 @@ def _tcp(ip, source, target, at, total):
         End(source, number(ip, at, 2)),
         End(target, number(ip, at + 2, 2)),
         (sequence + 1) % 2**32 if flags & SYN else sequence,
-        acknowledged if flags & ACK and not flags & RST else None,
+        acknowledged if flags & ACK else None,
         flags,
-        b"" if flags & RST else payload,  # what a reset carries is a reason in words, and no part of the stream
-        0 if flags & RST else total - payload_at - len(payload),
+        payload,
+        total - payload_at - len(payload),
     )

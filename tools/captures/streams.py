@@ -68,7 +68,7 @@ class Direction:
         old, new = self.kept[begin:end], payload[begin - place : end - place]
         if old != new:
             at = begin + next(i for i in range(len(old)) if old[i] != new[i])
-            words = f"packet {packet} has other bytes than the first copy from byte {at + 1} of {self.end} on; the first is taken"
+            words = f"packet {packet} repeats {self.end}'s byte {at + 1} and others differently; the first copy is taken"
             self.differs = Trouble(math.inf, self.records.is_clear(at), words)
 
     def troubles(self):
@@ -98,9 +98,14 @@ class Connection:
         self.segments = []  # (packet, segment)
 
     def belongs(self, segment):
-        """A SYN of another number opens another connection between the same ends."""
-        opens = segment.flags & SYN and not segment.flags & ACK
-        return not opens or self.opened.get(segment.source) == segment.sequence
+        """A SYN of another number, or an answer to such a one, is of another connection between the same ends."""
+        if not segment.flags & SYN:
+            return True
+        if segment.source in self.opened:
+            return self.opened[segment.source] == segment.sequence
+        if segment.acknowledged is None or segment.target not in self.opened:
+            return False
+        return (segment.acknowledged - self.opened[segment.target]) % 2**32 < 2**16  # a SYN may bring the first bytes along
 
     def add(self, packet, segment):
         if segment.flags & SYN:
@@ -121,6 +126,8 @@ class Connection:
         ends = {end: Direction(end, self._start(end)) for end in (self.client, self.server)}
         self.found = []  # (packet, message), in the order in which they were whole
         for packet, segment in self.segments:
+            if segment.flags & RST:  # its numbers need not be those of the stream
+                continue
             if segment.acknowledged is not None:
                 ends[segment.target].acknowledged(packet, segment.acknowledged)
             self.found += ((packet, message) for message in ends[segment.source].take(packet, segment))
