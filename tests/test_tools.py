@@ -351,6 +351,11 @@ def test_a_handshake_under_way():
         CLEAR[:1],
         "make-case: note: the capture ends while the handshake is under way\n",
     )
+    early = [
+        FLIGHTS[0],
+        (False, record(22, CLEAR[1][:-1]) + record(20, b"\x01") + record(22, bytes(40))),
+    ]  # its end never comes
+    assert answer(wire.pcap(frames(wire.talk(early))))[:2] == (3, CLEAR[:1])
     status, messages, said = answer(wire.pcap(frames(wire.talk([FLIGHTS[0], (False, b"HTTP/1.1 400 Bad Request\r\n")]))))
     assert (status, messages) == (3, CLEAR[:1]) and "no TLS record from its byte 1 on" in said
 

@@ -39,20 +39,17 @@ class Records:
         del self.bytes[:at]
 
     def _whole(self):
-        at = 0
-        while (
-            len(self.handshake) - at >= 4 + int.from_bytes(self.handshake[at + 1 : at + 4], "big")
-            and len(self.handshake) - at >= 4
-        ):
-            end = at + 4 + int.from_bytes(self.handshake[at + 1 : at + 4], "big")
-            yield bytes(self.handshake[at:end])
-            at = end
-        del self.handshake[:at]
+        while len(self.handshake) >= 4:
+            end = 4 + int.from_bytes(self.handshake[1:4], "big")
+            if len(self.handshake) < end:
+                return
+            yield bytes(self.handshake[:end])
+            del self.handshake[:end]
 
     @property
     def pending(self):
-        """Bytes of a message, or of a record, whose end has not come."""
-        return len(self.handshake) + len(self.bytes)
+        """Bytes in clear text of a message, or of a record, whose end has not come."""
+        return len(self.handshake) + (len(self.bytes) if self.clear else 0)
 
     def is_clear(self, place):
         return self.protected_from is None or place < self.protected_from

@@ -81,7 +81,7 @@ class Direction:
             if self.records.stopped is not None:
                 words = f"what {self.end} sends is no TLS record from its byte {self.records.stopped + 1} on"
                 yield Trouble(math.inf, True, words)
-            elif self.records.clear and self.records.pending:
+            elif self.records.pending:
                 words = f"the last message of {self.end} does not end; {self.records.pending} bytes of it are there"
                 yield Trouble(math.inf, True, words)
         if self.differs:
