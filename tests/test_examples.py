@@ -103,6 +103,7 @@ def test_a_failed_input_is_no_verdict():
             "empty": b"",
             "bad": b"01zz\n",
             "zip": b"PK\x03\x04",
+            "long": b"00" * 40_000 + b"\n",
             "gap.pcap": wire.pcap(frames(talk[:30] + talk[31:])),
             "cut.pcap": wire.pcap(frames(talk))[:2000],
         }
@@ -126,7 +127,7 @@ def test_missing_tools():
     with stand_in() as path:
         bare = path / "bare"
         bare.mkdir()
-        for tool in ("bash", "sh", "dirname", "readlink", "mktemp", "rm", "mkdir", "tee", "cat"):
+        for tool in ("bash", "sh", "dirname", "readlink", "mktemp", "rm", "mkdir", "tee", "cat", "wc"):
             (bare / tool).symlink_to(shutil.which(tool))
         for missing in ("python3", "rt"):
             if missing == "rt":

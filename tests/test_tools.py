@@ -186,7 +186,7 @@ def test_links():
 
 def test_links_that_are_not_known():
     status, messages, said = answer(wire.pcap(frames(TALK), 127))
-    assert status == 1 and messages is None and "link type 127" in said and "Ethernet (1)" in said
+    assert status == 1 and messages is None and "link type 127 is not known here" in said and "Ethernet (1)" in said
     mixed = (
         wire.section()
         + wire.interface(127)
@@ -307,6 +307,47 @@ def test_every_snap_length():
     assert some > 4
 
 
+def test_packets_cut_before_their_tcp_header():
+    """Nobody knows whose they are: here an acknowledgement, so that nothing else tells of it."""
+    at = next(i for i, s in enumerate(TALK) if i > 3 and not s.payload)
+    head = wire.section() + wire.interface()
+    for talk, expected in ((TALK, (4, CLEAR)), (TALK[: at + 1], (3, CLEAR[:1]))):
+        blocks = [wire.enhanced(f, cut=40 if i == at else None) for i, f in enumerate(frames(talk))]
+        status, messages, said = answer(head + b"".join(blocks))
+        assert (status, messages) == expected and f"1 packets, the first of them packet {at + 1}, are cut before" in said
+
+
+def test_cut_packets_in_other_blocks():
+    """A simple packet block tells by its interface how much was captured; a length of 0 does not hide that a packet is cut."""
+    made = frames(TALK)
+    snap = len(max(made, key=len)) - 53  # padded, so that the block has room for more
+    simple = wire.section() + wire.interface(snap=snap) + b"".join(wire.simple(f, cut=snap) for f in made)
+    _, _, said = answer(simple)
+    assert "is cut" in said and "broken" not in said
+    status, messages, said = answer(wire.pcap([wire.ethernet(wire.ip4(s, total=0)) for s in TALK], snap=snap))
+    assert status == 1 and messages is None and "is cut" in said
+
+
+def test_broken_blocks():
+    head, made = wire.section() + wire.interface(), frames(TALK)
+    first, rest = (b"".join(wire.enhanced(f) for f in part) for part in (made[:9], made[9:]))
+    for broken in (
+        wire.block(1, b"ab"),
+        wire.block(6, bytes(8)),
+        wire.block(3, b""),
+        wire.block(2, bytes(16)),
+        wire.enhanced(made[9], number=7),
+        wire.block(6, bytes(12) + b"\xff\x00\x00\x00" * 2),
+        bytes([5, 0, 0, 0, 8, 0, 0, 0]),
+        bytes(16),
+        wire.enhanced(made[9])[:-4] + bytes(4),
+        wire.section()[:8] + bytes(4) + wire.section()[12:],
+    ):
+        status, messages, said = answer(head + first + broken + rest)
+        assert status == 3 and is_prefix(messages) and "the file is broken at byte" in said, broken
+        assert answer(broken)[0] == 1
+
+
 def test_a_cut_packet_that_comes_again():
     """What one copy lacks another has: nothing is missing."""
     made = frames(TALK)
@@ -324,8 +365,10 @@ def test_fragments_of_ip():
     ip = wire.ip4(TALK[large])
     first = wire.ethernet(ip[:2] + (60).to_bytes(2, "big") + ip[4:6] + b"\x20\x00" + ip[8:60])
     rest = wire.ethernet(ip[:2] + (20 + len(ip) - 60).to_bytes(2, "big") + ip[4:6] + b"\x00\x05" + ip[8:20] + ip[60:])
-    status, messages, _ = answer(wire.pcap(made[:large] + [first, rest] + made[large + 1 :]))
+    data = wire.pcap(made[:large] + [first, rest] + made[large + 1 :])
+    status, messages, _ = answer(data)
     assert (status, messages) == (3, CLEAR[:1])
+    assert len(make_case.Capture(data).connections) == 1  # the rest of a fragment has no TCP header
 
 
 def test_files_that_end_early():

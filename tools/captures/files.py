@@ -32,14 +32,15 @@ def is_capture(data):
 def packets(data, trouble):
     """Each packet in turn. `trouble` is called with a line for a file that ends early or breaks off."""
     if data[:4] in PCAP:
-        yield from _pcap(data, PCAP[data[:4]], trouble)
-    elif data[:4] == PCAPNG:
-        yield from _pcapng(data, trouble)
-    elif not data:
+        return _pcap(data, PCAP[data[:4]], trouble)
+    if data[:4] == PCAPNG:
+        return _pcapng(data, trouble)
+    if not data:
         raise Unreadable("an empty file")
-    else:
-        unpack = [how for magic, how in COMPRESSED.items() if data.startswith(magic)]
-        raise Unreadable(f"a compressed file; unpack it first ({unpack[0]})" if unpack else "neither pcap nor pcapng")
+    for magic, command in COMPRESSED.items():
+        if data.startswith(magic):
+            raise Unreadable(f"a compressed file; unpack it first ({command})")
+    raise Unreadable("neither pcap nor pcapng (Wireshark's `editcap -F pcap` converts captures of other kinds)")
 
 
 def _pcap(data, order, trouble):
