@@ -1,7 +1,14 @@
-/* sha256 FILE: the digest of a file, taken in pieces through the proved library, as sha256sum prints it. */
+/* sha256 FILE: the digest of a file, taken in pieces through the proved library, as sha256sum prints it. A read or a write that
+ * fails is said on standard error, and the status is then 1. */
 #include "axle_gateway.h"
 
 #include <stdio.h>
+
+static int failed(const char *what)
+{
+    perror(what);
+    return 1;
+}
 
 int main(int argc, char **argv)
 {
@@ -10,10 +17,8 @@ int main(int argc, char **argv)
         return 2;
     }
     FILE *file = fopen(argv[1], "rb");
-    if (file == NULL) {
-        perror(argv[1]);
-        return 1;
-    }
+    if (file == NULL)
+        return failed(argv[1]);
     AxleHash hash = axle_hash_fresh();
     uint8_t piece[4096];
     size_t got;
@@ -25,10 +30,14 @@ int main(int argc, char **argv)
         }
         hash = taken.hash;
     }
+    if (ferror(file)) /* a short count is the end of the file, or a read that failed */
+        return failed(argv[1]);
     fclose(file);
     AxleDigest digest = axle_hash_digest(hash);
     for (int i = 0; i < 32; i++)
         printf("%02x", digest.bytes[i]);
     printf("  %s\n", argv[1]);
+    if (fflush(stdout) != 0 || ferror(stdout)) /* what was printed is written out here */
+        return failed("standard output");
     return 0;
 }

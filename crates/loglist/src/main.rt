@@ -1,13 +1,20 @@
-// Reads a case from standard input, and writes what the message log and the server's decision answer to its messages.
-use libc::STDIN_FILENO;
+// Reads a case from standard input, and writes what the message log and the server's decision answer to its messages. Where a
+// read or a write fails it says so on standard error, and nothing is said of a case that was not read whole.
 use libc::STDOUT_FILENO;
 
 fn main() {
     // A case of more than 32,768 bytes is bad, however it goes on: what does not fit here is not missed.
     let mut input = io::large_buffer();
-    let n = io::read_full(STDIN_FILENO, &mut input);
+    let read = stdio::read_input(&mut input);
+    if read.failed {
+        os::fail(b"loglist: standard input");
+        return;
+    }
+    let n = read.length;
     let text = listing::list(&input[..n]);
     let bytes = text.bytes;
     let length = text.length;
-    io::write_all(STDOUT_FILENO, &bytes[..length]);
+    if !io::write_all(STDOUT_FILENO, &bytes[..length]) {
+        os::fail(b"loglist: standard output");
+    }
 }

@@ -1,13 +1,20 @@
 // Reads a script of calls on the session table from standard input and writes the book's answers to standard output, both in
-// the layout of crates/script/specs/Script.antt. It reads at most 65,536 bytes, which are 585 calls.
-use libc::STDIN_FILENO;
+// the layout of crates/script/specs/Script.antt. It reads at most 65,536 bytes, which are 585 calls. Where a read or a write
+// fails it says so on standard error, and nothing is answered of a script that was not read whole.
 use libc::STDOUT_FILENO;
 
 fn main() {
     let mut input = io::large_buffer();
-    let n = io::read_full(STDIN_FILENO, &mut input);
+    let read = stdio::read_input(&mut input);
+    if read.failed {
+        os::fail(b"replay: standard input");
+        return;
+    }
+    let n = read.length;
     let mut out = io::large_buffer();
     script::replay(&input[..n], &mut out);
     let size = 68 * (n / 112);
-    io::write_all(STDOUT_FILENO, &out[..size]);
+    if !io::write_all(STDOUT_FILENO, &out[..size]) {
+        os::fail(b"replay: standard output");
+    }
 }

@@ -6,7 +6,7 @@ use Prim.Native.Nat.{ℕ, suc, _+_, _-_, _*_, _/_, _%_, _≤_, _<_}
 use native.Mathlib.Nat.{mul-add, add-zero, div-add-mod, mod-lt, mul-add-div, div-eq-of-lt, mul-add-mod-self-left, mod-eq-of-lt, mul-zero, mul-one, sub-zero, zero-div, zero-mod}
 use native.Mathlib.Numerals.{one-add}
 use native.Mathlib.Omega.{arith}
-use lib.ListN.{length, take, drop, replicate, length-append, length-drop, length-replicate, drop-of-length-le}
+use lib.ListN.{length, take, drop, replicate, length-append, length-drop, drop-of-length-le}
 use lib.Seq.{length-take-le, drop-append-le, drop-drop, take-append-add, drop-append-add, paste, take-all, take-at, take-length}
 use Rattle.seqs.specs.Blocks.{after}
 use Rattle.seqs.specs.Taken.{leftOf, waiting, Holds}
@@ -33,12 +33,6 @@ module _ (size : ℕ) (positive : 0 < size) (m : List ℕ) where
 
   pub take-waiting : take (length m % size) (waiting size m) ≡ leftOf size m
   take-waiting = take-at (leftOf size m) (replicate (size - length m % size) 0) (length m % size) length-left
-
-  pub length-waiting : length (waiting size m) ≡ size
-  length-waiting =
-      length-append (leftOf size m) (replicate (size - length m % size) 0)
-      ∙ ap₂ (λ (i j : ℕ). i + j) length-left (length-replicate (size - length m % size) 0)
-      ∙ (omega (arith, room))
 
   -- nothing waits
   pub none-waits : length m % size ≡ 0 → waiting size m ≡ replicate size 0
