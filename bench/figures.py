@@ -108,8 +108,8 @@ def machine(figures):
     uses = OPENSSL in {who for _, _, who in figures.runs}
     where = "has them, and OpenSSL uses them in all of its rows but those of the column that says otherwise"
     paragraphs = [
-        f"{figures.number} runs on {said['date']}: {said['processor']}, {said['cores']} cores, {said['memory']}, load {said['load']} when they"
-        f" began and {said['load at the end']} when they ended (the bench itself makes 1); {said['system']}, gcc {said['gcc']},"
+        f"{figures.number} runs on {said['date']}: {said['processor']}, {said['cores']} cores, {said['memory']}, load {said['load']}"
+        f" when they began and {said['load at the end']} when they ended (the bench itself makes 1); {said['system']}, gcc {said['gcc']},"
         f" rustc {said['rustc']}. This library is that of commit {said['commit']}. The others are Debian's packages: {libraries}.",
         f"SHA instructions (`sha256rnds2`) stand in the code of {having}; in that of {lacking} there are none. This processor"
         f" {where if uses else 'has none, so no row uses them'}.",
@@ -245,11 +245,10 @@ def write(figures):
 
 def main(arguments):
     figures = Figures(pathlib.Path(arguments[-1]))
-    for part in PARTS.values():
-        print(part(figures), end="\n\n")
     if "--write" in arguments:
         write(figures)
-        print("written to docs/PERFORMANCE.md and docs/plots")
+    for part in PARTS.values():
+        print(part(figures), end="\n\n")
 
 
 if __name__ == "__main__":
