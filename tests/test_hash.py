@@ -89,6 +89,20 @@ def test_random_runs():
         assert absorbed(parts) == hashlib.sha256(b"".join(parts)).digest()
 
 
+def test_one_value_for_one_message():
+    """However a message is cut, the running hash is one struct: nothing of an earlier piece stays behind in its tail."""
+    r = random.Random(6)
+    for _ in range(400):
+        message = r.randbytes(r.randrange(400))
+        whole = face.hash_absorb(face.hash_fresh(), message).hash
+        h, at = face.hash_fresh(), 0
+        while at < len(message):
+            n = r.choice((1, 7, 63, 64, 65, r.randrange(1, 200)))
+            h, at = face.hash_absorb(h, message[at : at + n]).hash, at + n
+        assert face.plain(h) == face.plain(whole)
+        assert bytes(h.tail)[len(message) % 64 :] == bytes(64 - len(message) % 64)
+
+
 def test_any_struct_value_ends():
     """A struct that no run of calls made: the number goes by the length, and a refusal changes nothing."""
     r = random.Random(5)

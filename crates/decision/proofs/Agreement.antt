@@ -11,7 +11,8 @@ use lib.Dec.{eqb}
 use lib.ListN.{length}
 use borrow.Author.Tests.{eq-eqb, ne-eqb, eqb-false, le-ltb}
 use Rattle.seqs.specs.Pick.{pick}
-use Rattle.seqs.specs.Flag.{yes, yes-bit}
+use Rattle.seqs.specs.Flag.{yes}
+use Rattle.seqs.proofs.Flag.{yes-bit}
 use Rattle.seqs.specs.Cases.{by-test}
 use Rattle.refusal.specs.First.{firstOf}
 use Rattle.octets.specs.Same.{same}

@@ -6,7 +6,8 @@ use mathlib.Core.List.{List}
 use mathlib.Core.Option.{Option, some}
 use Prim.Native.Nat.{ℕ}
 use lib.ListN.{length, take, drop}
-use Rattle.seqs.specs.Flag.{yes, yes-bit}
+use Rattle.seqs.specs.Flag.{yes}
+use Rattle.seqs.proofs.Flag.{yes-bit}
 use Rattle.seqs.specs.Cases.{by-test}
 use Rattle.hello.specs.Extensions.{Extension, riKind, has, indicationOf, emsOf, othersOf}
 use Rattle.hello.specs.Fields.{readClient, readServer, signalIn}

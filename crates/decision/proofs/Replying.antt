@@ -1,13 +1,16 @@
 -- The reply's bytes, case by case.
 -- Assumes nothing.
-use mathlib.Core.Path.{_≡_, sym, _∙_, ap, ap₂}
+use mathlib.Core.Path.{_≡_, sym, _∙_, ap, ap₂, subst}
 use mathlib.Core.Bool.{Bool, true, false}
 use mathlib.Core.List.{List, [], _∷_, _++_, append-nil}
-use Prim.Native.Nat.{ℕ, _+_}
+use Prim.Native.Nat.{ℕ, _+_, _-_}
 use native.Mathlib.Omega.{arith}
 use lib.ListN.{length, take, drop, replicate, length-append}
-use lib.Seq.{take-at, drop-at, take-all, take-take, drop-drop, length-take-le}
+use lib.Seq.{take-at, drop-at, take-all, take-take, drop-drop, length-take-le, paste, length-paste}
 use borrow.Author.Tests.{eq-eqb, ne-eqb}
+use borrow.Rule.Slice.PartMut.{midOf, putMid}
+use Rattle.octets.specs.Put.{putList}
+use Rattle.octets.proofs.Places.{put-at}
 use Rattle.hello.specs.Written.{writtenList, writtenBlock, riHolding, emsExtension}
 use Rattle.decision.specs.Reply.{replyList, replyOf}
 use Rattle.decision.specs.Steps.{renegotiatedBytes, Replies}
@@ -17,15 +20,39 @@ use Rattle.decision.specs.declared.connection.Connection.{Connection}
 abbrev around : ℕ → List ℕ
 around inside = (0 ∷ inside ∷ 255 ∷ 1 ∷ 0 ∷ 25 ∷ 24 ∷ []) ++ replicate 24 0 ++ (0 ∷ 23 ∷ 0 ∷ 0 ∷ [])
 
-pub placed-twice : (inside : ℕ) (c s : List ℕ) → length c ≡ 12 → {x y : List ℕ} → x ≡ take 7 (around inside) ++ c ++ drop 19 (around inside)
+twice : (inside : ℕ) (c s : List ℕ) → length c ≡ 12 → {x y : List ℕ} → x ≡ take 7 (around inside) ++ c ++ drop 19 (around inside)
     → y ≡ take 19 x ++ s ++ drop 31 x → y ≡ renegotiatedBytes inside c s
-placed-twice inside c s l p q =
+twice inside c s l p q =
     let n : length ((0 ∷ inside ∷ 255 ∷ 1 ∷ 0 ∷ 25 ∷ 24 ∷ []) ++ c) ≡ 19 = omega arith in
     let d : drop (19 + 12) ((0 ∷ inside ∷ 255 ∷ 1 ∷ 0 ∷ 25 ∷ 24 ∷ []) ++ c ++ drop 19 (around inside)) ≡ 0 ∷ 23 ∷ 0 ∷ 0 ∷ [] =
     sym (drop-drop 12 19 ((0 ∷ inside ∷ 255 ∷ 1 ∷ 0 ∷ 25 ∷ 24 ∷ []) ++ c ++ drop 19 (around inside))) ∙ ap (λ (r : List ℕ). drop 12 r) (drop-at ((0 ∷ inside ∷ 255 ∷ 1 ∷ 0 ∷ 25 ∷ 24 ∷ []) ++ c) (drop 19 (around inside)) 19 n) in
     let t : take 19 ((0 ∷ inside ∷ 255 ∷ 1 ∷ 0 ∷ 25 ∷ 24 ∷ []) ++ c ++ drop 19 (around inside)) ≡ (0 ∷ inside ∷ 255 ∷ 1 ∷ 0 ∷ 25 ∷ 24 ∷ []) ++ c =
     take-at ((0 ∷ inside ∷ 255 ∷ 1 ∷ 0 ∷ 25 ∷ 24 ∷ []) ++ c) (drop 19 (around inside)) 19 n in
     q ∙ ap (λ (z : List ℕ). take 19 z ++ s ++ drop 31 z) p ∙ ap₂ (λ (u w : List ℕ). u ++ s ++ w) t d
+
+-- each put from an index of the array on
+module _ (inside : ℕ) (c s : List ℕ) (l : length c ≡ 12) {p : List ℕ} (e : p ≡ putList (midOf 7 28 (around inside)) c) where
+  abbrev once : List ℕ
+  once = putMid 7 28 (around inside) p
+
+  pasted : once ≡ paste (around inside) 7 c 12
+  pasted = put-at (around inside) c 7 (omega (arith, l)) e ∙ ap (λ (n : ℕ). paste (around inside) 7 c n) l
+
+  pub placed-length : length once ≡ 35
+  placed-length = ap length pasted ∙ length-paste (around inside) 7 c 12 (omega arith) (omega (arith, l))
+
+  pub placed-twice : length s ≡ 12 → {q : List ℕ} → q ≡ putList (midOf 19 16 once) s → putMid 19 16 once q ≡ renegotiatedBytes inside c s
+  placed-twice m {q} f =
+      let n = placed-length in
+      let w : length once - 19 ≡ 16 = omega (arith, n) in
+      let b = put-at once s 19 (omega (arith, n, m)) (subst (λ (k : ℕ). q ≡ putList (midOf 19 k once) s) (sym w) f) in
+      let x : once ≡ take 7 (around inside) ++ c ++ drop 19 (around inside) =
+      pasted ∙ ap (λ (z : List ℕ). take 7 (around inside) ++ z ++ drop 19 (around inside)) (take-all 12 c (omega (arith, l))) in
+      let y : putMid 19 16 once q ≡ take 19 once ++ s ++ drop 31 once =
+      subst (λ (k : ℕ). putMid 19 k once q ≡ paste once 19 s (length s)) w b
+      ∙ ap (λ (k : ℕ). paste once 19 s k) m
+      ∙ ap (λ (z : List ℕ). take 19 once ++ z ++ drop 31 once) (take-all 12 s (omega (arith, m))) in
+      twice inside c s l x y
 
 -- the 24 bytes between
 pub middle : (inside : ℕ) (c s : List ℕ) → length c ≡ 12 → length s ≡ 12 → take 24 (drop 7 (renegotiatedBytes inside c s)) ≡ c ++ s

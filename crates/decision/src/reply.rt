@@ -1,9 +1,8 @@
 // The extensions of our ServerHello.
 use crate::connection::Connection;
 ghost use mathlib.Core.Path.{_≡_};
-ghost use mathlib.Core.List.{[], _∷_, _++_};
-ghost use Prim.Native.Nat.{_+_, _≤_};
-ghost use lib.ListN.{length, take, drop};
+ghost use mathlib.Core.List.{[], _∷_};
+ghost use lib.ListN.{take};
 ghost use Rattle.decision.specs.Reply.{replyOf};
 ghost use Rattle.decision.specs.Steps.{renegotiatedBytes, Replies};
 
@@ -76,19 +75,7 @@ pub(crate) fn renegotiated(client: [u8; 12], server: [u8; 12], inside: u8) -> [u
     bytes[5] = 25;
     bytes[6] = 24;
     bytes[32] = 23;
-    place(place(bytes, 7, client), 19, server)
-}
-
-// 12 bytes from place `at` on.
-fn place(bytes: [u8; 35], at: usize, verify_data: [u8; 12]) -> [u8; 35]
-    requires { ⌜ at + 12 ≤ 35 ⌝ }
-    ensures { λ r. ⌜ r ≡ take at bytes ++ «verify_data» ++ drop (at + 12) bytes ⌝ }
-{
-    let mut bytes = bytes;
-    let mut i: usize = 0;
-    while i < 12 {
-        bytes[at + i] = verify_data[i];
-        i += 1;
-    }
+    octets::put(&mut bytes[7..], &client);
+    octets::put(&mut bytes[19..], &server);
     bytes
 }

@@ -28,15 +28,13 @@ impl Text {
         requires { ⌜ self .length + length (now more) ≤ 4103 ⌝ }
         ensures { λ r. ⌜ (r .length ≡ self .length + length (now (more .entry))) × ((s : List ℕ) → self ≡ textOf s → r ≡ textOf (s ++ now (more .entry))) ⌝ }
     {
-        let mut text = self;
         let start = self.length;
-        let mut i = 0;
-        while i < more.len() {
-            text.bytes[start + i] = more[i];
-            i += 1;
+        let mut bytes = self.bytes;
+        octets::put(&mut bytes[start..], more);
+        Text {
+            bytes,
+            length: start + more.len(),
         }
-        text.length = start + i;
-        text
     }
 
     // With a line more.

@@ -25,7 +25,7 @@ use Rattle.log.specs.Calls.{misshapen, shapeNumber}
 use Rattle.log.specs.Check.{expectedValue, expectedNumber, expectedOf, checkNumber, afterCheck}
 use Rattle.log.specs.Stands.{Stands, number, finishedWith}
 use Rattle.log.specs.Promise.{Checks, Expects}
-use Rattle.log.specs.Steps.{Judges, remembering}
+use Rattle.log.specs.Steps.{Judges, Asks, remembering}
 use Rattle.log.specs.declared.shape.Judged.{Judged}
 use Rattle.log.specs.declared.state.Log.{Log}
 use Rattle.log.specs.declared.answers.Checked.{Checked}
@@ -104,26 +104,19 @@ module _ (secret m : List ℕ) (h : History) where
     check-due f true false p q = rw (eq-eqb (length secret) 48 n, f .short, f .stated, f .shaped, p, q)
     check-due f false b p q = rw (eq-eqb (length secret) 48 n, f .short, f .stated, f .shaped, p)
 
--- the ways out of the check
+-- the ways out of what is asked first
 module _ (log : Log) (secret m : List ℕ) where
-  refused-checks : (n : ℕ) (r : Checked) → n ≤ 11 → (n ≡ 0 → ⊥) → (r .refusal ≡ refusalOf n) × (r .log ≡ log)
-      → ((h : History) → Stands log h → checkNumber h secret m ≡ n) → Checks log secret m r
-  unfolding afterCheck
-  refused-checks n r l z e f =
-      record {
-        listed = listed n (r .refusal) (e .0) l;
-        kept = λ _. e .1;
-        refusal = λ h s. e .0 ∙ ap refusalOf (sym (f h s));
-        stands = λ h s. rw (e .1, f h s, ne-eqb n 0 z) s;
-      }
+  asks-refused : (n : ℕ) → n ≤ 11 → (n ≡ 0 → ⊥) → ((h : History) → Stands log h → checkNumber h secret m ≡ n) → Asks log secret m n
+  asks-refused n l z f =
+      record { within = l; refused = λ _. f; sized = λ e. absurd (z e); shape = λ e. absurd (z e); kind = λ e. absurd (z e); due = λ e. absurd (z e) }
 
-  pub secret-checks : (r : Checked) → (length secret ≡ 48 → ⊥) → (r .refusal ≡ refusalOf 10) × (r .log ≡ log) → Checks log secret m r
-  secret-checks r n e = refused-checks 10 r (omega arith) (λ x. omega arith) e (λ h s. check-secret secret m h n)
+  pub secret-asks : (length secret ≡ 48 → ⊥) → Asks log secret m 10
+  secret-asks n = asks-refused 10 (omega arith) (λ x. omega arith) (λ h s. check-secret secret m h n)
 
   module _ (n : length secret ≡ 48) (j : Judged) (jd : Judges m j) where
-    pub shape-checks : (r : Checked) → (j .number ≡ 0 → ⊥) → (r .refusal ≡ refusalOf (j .number)) × (r .log ≡ log) → Checks log secret m r
-    shape-checks r z e =
-        refused-checks (j .number) r (omega (arith, jd .number, shape-most m)) z e
+    pub shape-asks : (j .number ≡ 0 → ⊥) → Asks log secret m (j .number)
+    shape-asks z =
+        asks-refused (j .number) (omega (arith, jd .number, shape-most m)) z
         (λ h s. check-shape secret m h n (λ q. z (jd .number ∙ q)) ∙ sym (jd .number))
 
     module _ (z : j .number ≡ 0) where
@@ -133,39 +126,63 @@ module _ (log : Log) (secret m : List ℕ) where
       kind : j .kind ≡ kindOf m
       kind = jd .kind z
 
-      pub kind-checks : (r : Checked) → (j .kind ≡ 20 → ⊥) → (r .refusal ≡ refusalOf 7) × (r .log ≡ log) → Checks log secret m r
-      kind-checks r k e =
-          refused-checks 7 r (omega arith) (λ x. omega arith) e
+      pub kind-asks : (j .kind ≡ 20 → ⊥) → Asks log secret m 7
+      kind-asks k =
+          asks-refused 7 (omega arith) (λ x. omega arith)
           (λ h s. check-due secret m h n well false (same (bodyOf m) (expectedValue h secret)) (rw (← kind, ne-eqb (j .kind) 20 k)) refl)
 
       module _ (k : j .kind ≡ 20) (b : Bool) (d : Due log b) where
-        finished : eqb (kindOf m) 20 ≡ true
-        finished = eq-eqb (kindOf m) 20 (sym kind ∙ k)
+        pub due-asks : not b ≡ true → Asks log secret m 7
+        due-asks x =
+            asks-refused 7 (omega arith) (λ y. omega arith)
+            (λ h s. check-due secret m h n well false (same (bodyOf m) (expectedValue h secret)) (rw (eq-eqb (kindOf m) 20 (sym kind ∙ k), due-by log h b s d) (not-true b x)) refl)
 
-        pub due-checks : (r : Checked) → not b ≡ true → (r .refusal ≡ refusalOf 7) × (r .log ≡ log) → Checks log secret m r
-        due-checks r x e =
-            refused-checks 7 r (omega arith) (λ y. omega arith) e
-            (λ h s. check-due secret m h n well false (same (bodyOf m) (expectedValue h secret)) (rw (finished, due-by log h b s d) (not-true b x)) refl)
+        pub done-asks : not b ≡ false → Asks log secret m 0
+        done-asks x =
+            record {
+              within = omega arith;
+              refused = λ y. absurd (y refl);
+              sized = λ _. n;
+              shape = λ _. sym (jd .number) ∙ z;
+              kind = λ _. sym kind ∙ k;
+              due = λ _ h s. due-by log h b s d ∙ not-false b x;
+            }
 
-        module _ (x : not b ≡ false) (value : List ℕ) (v : (h : History) → Stands log h → value ≡ expectedValue h secret)
-            (a : Bool) (w : a ≡ same (bodyOf m) value) where
-          number-by : (h : History) → Stands log h → checkNumber h secret m ≡ pick a 0 8
-          number-by h s = check-due secret m h n well true a (rw (finished, due-by log h b s d) (not-false b x)) (rw (← v h s) (sym w))
+-- the ways out of the check
+module _ (log : Log) (secret m : List ℕ) (n : ℕ) (o : Asks log secret m n) where
+  refused-by : (k : ℕ) (r : Checked) → k ≤ 11 → (k ≡ 0 → ⊥) → r .refusal ≡ refusalOf k → r .log ≡ log
+      → ((h : History) → Stands log h → checkNumber h secret m ≡ k) → Checks log secret m r
+  unfolding afterCheck
+  refused-by k r l z e q f =
+      record {
+        listed = listed k (r .refusal) e l;
+        kept = λ _. q;
+        refusal = λ h s. e ∙ ap refusalOf (sym (f h s));
+        stands = λ h s. rw (q, f h s, ne-eqb k 0 z) s;
+      }
 
-          pub differs-checks : (r : Checked) → a ≡ false → (r .refusal ≡ refusalOf 8) × (r .log ≡ log) → Checks log secret m r
-          differs-checks r y e =
-              refused-checks 8 r (omega arith) (λ q. omega arith) e (λ h s. number-by h s ∙ (rw y))
+  pub refused-checks : (r : Checked) → r .refusal ≡ refusalOf n → r .log ≡ log → (n ≡ 0 → ⊥) → Checks log secret m r
+  refused-checks r e q z = refused-by n r (o .within) z e q (o .refused z)
 
-          pub equal-checks : (r : Checked) → a ≡ true → (r .refusal ≡ refusalOf 0) × (r .log ≡ remembering log value) → Checks log secret m r
-          unfolding afterCheck
-          equal-checks r y e =
-              let same-value : bodyOf m ≡ value = same-true (bodyOf m) value (sym w ∙ y) in
-              record {
-                listed = listed 0 (r .refusal) (e .0) (omega arith);
-                kept = λ q. absurd (q (numbered 0 (r .refusal) (e .0)));
-                refusal = λ h s. e .0 ∙ ap refusalOf (sym (number-by h s ∙ (rw y)));
-                stands =
-                    λ h s.
-                    rw (e .1, number-by h s, y)
-                    (remembering-stands log h m value s (well .finished (sym kind ∙ k) ∙ ap finishedWith same-value));
-              }
+  module _ (z : n ≡ 0) (value : List ℕ) (v : (h : History) → Stands log h → value ≡ expectedValue h secret) (a : Bool) (w : a ≡ same (bodyOf m) value) where
+    number-by : (h : History) → Stands log h → checkNumber h secret m ≡ pick a 0 8
+    number-by h s =
+        check-due secret m h (o .sized z) (fine m (o .shape z)) true a (rw (eq-eqb (kindOf m) 20 (o .kind z), o .due z h s)) (rw (← v h s) (sym w))
+
+    pub differs-checks : (r : Checked) → a ≡ false → r .refusal ≡ refusalOf 8 → r .log ≡ log → Checks log secret m r
+    differs-checks r y e q = refused-by 8 r (omega arith) (λ x. omega arith) e q (λ h s. number-by h s ∙ (rw y))
+
+    pub equal-checks : (r : Checked) → a ≡ true → r .refusal ≡ refusalOf n → r .log ≡ remembering log value → Checks log secret m r
+    unfolding afterCheck
+    equal-checks r y e q =
+        let same-value : bodyOf m ≡ value = same-true (bodyOf m) value (sym w ∙ y) in
+        let f : r .refusal ≡ refusalOf 0 = e ∙ ap refusalOf z in
+        record {
+          listed = listed 0 (r .refusal) f (omega arith);
+          kept = λ x. absurd (x (numbered 0 (r .refusal) f));
+          refusal = λ h s. f ∙ ap refusalOf (sym (number-by h s ∙ (rw y)));
+          stands =
+              λ h s.
+              rw (q, number-by h s, y)
+              (remembering-stands log h m value s (fine m (o .shape z) .finished (o .kind z) ∙ ap finishedWith same-value));
+        }

@@ -5,17 +5,16 @@ use mathlib.Core.Bool.{Bool, true}
 use mathlib.Core.List.{List}
 use Prim.Native.Nat.{ℕ, _≤_}
 use lib.ListN.{length}
-use Rattle.refusal.specs.Table.{refusalOf}
 use Rattle.message.specs.Frame.{kindOf, bodyOf}
-use Rattle.log.specs.Order.{turns, look, isDue}
+use Rattle.log.specs.Order.{turns, look, isDue, finishedDue}
 use Rattle.log.specs.History.{History, placeOf}
 use Rattle.log.specs.History.History.{accepted}
-use Rattle.log.specs.Calls.{shapeNumber}
+use Rattle.log.specs.Calls.{shapeNumber, acceptNumber}
+use Rattle.log.specs.Check.{checkNumber}
 use Rattle.log.specs.Stands.{Stands, number}
-use Rattle.refusal.specs.Listed.{Listed}
 use Rattle.log.specs.declared.shape.Judged.{Judged}
 use Rattle.log.specs.declared.state.Log.{Log}
-use Rattle.log.specs.declared.answers.Accepted.{Accepted}
+use Rattle.log.specs.declared.state.Turn.{Turn}
 
 pub record Judges (m : List ℕ) (r : Judged) : Type 0 where
   pub number : r .number ≡ shapeNumber m
@@ -56,8 +55,23 @@ pub record InTurn (log : Log) (h : History) (m : List ℕ) (resumes : Bool) (k p
   pub size : length m ≤ 16388
   pub value : k ≡ 20 → log .value ≡ bodyOf m
 
-pub record Takes (log : Log) (m : List ℕ) (k p : ℕ) (r : Accepted) : Type 0 where
-  pub listed : Listed (r .refusal)
-  pub kept : (r .refusal .number ≡ 0 → ⊥) → r .log ≡ log
-  pub refusal : (h : History) (resumes : Bool) → Stands log h → InTurn log h m resumes k p → r .refusal ≡ refusalOf 0
-  pub stands : (h : History) (resumes : Bool) → Stands log h → InTurn log h m resumes k p → Stands (r .log) (accepted h m resumes)
+-- what is to be done with a message: its number, and where that is 0 a HelloRequest or a message that is in turn
+pub record TurnOf (log : Log) (m : List ℕ) (resumes : Bool) (t : Turn) : Type 0 where
+  pub within : t .number ≤ 11
+  pub number : (h : History) → Stands log h → acceptNumber h m resumes ≡ t .number
+  pub request : t .number ≡ 0 → t .kind ≡ 0 → kindOf m ≡ 0
+  pub in-turn : t .number ≡ 0 → (t .kind ≡ 0 → ⊥) → (h : History) → Stands log h → InTurn log h m resumes (t .kind) (t .place)
+
+-- the log that has accepted it
+pub record LogAfter (log : Log) (m : List ℕ) (k p : ℕ) (r : Log) : Type 0 where
+  pub request : k ≡ 0 → kindOf m ≡ 0 → (h : History) (resumes : Bool) → Stands log h → Stands r (accepted h m resumes)
+  pub taken : (k ≡ 0 → ⊥) → (h : History) (resumes : Bool) → Stands log h → InTurn log h m resumes k p → Stands r (accepted h m resumes)
+
+-- what is asked of a Finished before its value: refused by n, or a Finished that is due
+pub record Asks (log : Log) (secret m : List ℕ) (n : ℕ) : Type 0 where
+  pub within : n ≤ 11
+  pub refused : (n ≡ 0 → ⊥) → (h : History) → Stands log h → checkNumber h secret m ≡ n
+  pub sized : n ≡ 0 → length secret ≡ 48
+  pub shape : n ≡ 0 → shapeNumber m ≡ 0
+  pub kind : n ≡ 0 → kindOf m ≡ 20
+  pub due : n ≡ 0 → (h : History) → Stands log h → finishedDue (placeOf h) ≡ true

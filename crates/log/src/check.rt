@@ -11,7 +11,7 @@ ghost use Rattle.log.specs.History.{History};
 ghost use Rattle.log.specs.Check.{expectedValue};
 ghost use Rattle.log.specs.Stands.{Stands};
 ghost use Rattle.log.specs.Promise.{Checks, Expects};
-ghost use Rattle.log.specs.Steps.{remembering};
+ghost use Rattle.log.specs.Steps.{Asks, remembering};
 
 // How long a master secret is.
 const SECRET: usize = 48;
@@ -21,41 +21,47 @@ impl Log {
     pub fn check_finished(self, secret: &[u8], message: &[u8]) -> Checked
         ensures { λ r. ⌜ Checks self (now (secret .entry)) (now (message .entry)) r ⌝ }
     {
-        if secret.len() != SECRET {
-            return self.unchecked(10);
-        }
-        let judged = shape::judge(message);
-        if judged.number != 0 {
-            return self.unchecked(judged.number);
-        }
-        if judged.kind != shape::FINISHED {
-            return self.unchecked(7);
-        }
-        if !order::finished_due(self.place) {
-            return self.unchecked(7);
+        let number = self.check_number(secret, message);
+        let refusal = refusal::refuse(number);
+        let mut r = Checked { refusal, log: self };
+        if number != 0 {
+            return r;
         }
         let value = self.expected_value(secret);
         if shape::carries(message, value) {
-            return self.checked(value);
+            r.log = self.remembering(value);
+            return r;
         }
-        self.unchecked(8)
+        r.refusal = refusal::refuse(8);
+        r
     }
 
-    fn unchecked(self, number: u8) -> Checked
-        ensures { λ r. ⌜ (r .refusal ≡ refusalOf number) × (r .log ≡ self) ⌝ }
+    fn remembering(mut self, value: [u8; 12]) -> Log
+        ensures { λ r. ⌜ r ≡ remembering self value ⌝ }
     {
-        let refusal = refusal::refuse(number);
-        Checked { refusal, log: self }
+        self.checked = 1;
+        self.value = value;
+        self
     }
 
-    fn checked(self, value: [u8; 12]) -> Checked
-        ensures { λ r. ⌜ (r .refusal ≡ refusalOf 0) × (r .log ≡ remembering self value) ⌝ }
+    // What is asked before the value is computed.
+    fn check_number(self, secret: &[u8], message: &[u8]) -> u8
+        ensures { λ r. ⌜ Asks self (now (secret .entry)) (now (message .entry)) r ⌝ }
     {
-        let refusal = refusal::refuse(0);
-        let mut log = self;
-        log.checked = 1;
-        log.value = value;
-        Checked { refusal, log }
+        if secret.len() != SECRET {
+            return 10;
+        }
+        let judged = shape::judge(message);
+        if judged.number != 0 {
+            return judged.number;
+        }
+        if judged.kind != shape::FINISHED {
+            return 7;
+        }
+        if !order::finished_due(self.place) {
+            return 7;
+        }
+        0
     }
 
     // verify_data of the Finished that is due.

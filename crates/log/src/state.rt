@@ -21,7 +21,14 @@ ghost use Rattle.log.specs.History.History.{fresh};
 ghost use Rattle.log.specs.History.Side.{client, server};
 ghost use Rattle.log.specs.Stands.{Stands, Placed};
 ghost use Rattle.log.specs.Promise.{Accepts, Hashes};
-ghost use Rattle.log.specs.Steps.{Takes, forgetting};
+ghost use Rattle.log.specs.Steps.{TurnOf, LogAfter};
+
+// What is to be done with a message: the number of the refusal, or 0, its type, and the place that it leads to.
+struct Turn {
+    number: u8,
+    kind: u8,
+    place: u8,
+}
 
 #[repr(C)]
 pub struct Log {
@@ -59,42 +66,63 @@ impl Log {
     pub fn accept(self, message: &[u8], resumes: bool) -> Accepted
         ensures { λ r. ⌜ Accepts self (now (message .entry)) resumes r ⌝ }
     {
-        let judged = shape::judge(message);
-        if judged.number != 0 {
-            return self.refused(judged.number);
+        let turn = self.turn(message, resumes);
+        let refusal = refusal::refuse(turn.number);
+        let mut r = Accepted { refusal, log: self };
+        if turn.number != 0 {
+            return r;
         }
+        r.log = self.after(message, turn.kind, turn.place);
+        r
+    }
+
+    // Is the message in turn, and where does it lead?
+    fn turn(self, message: &[u8], resumes: bool) -> Turn
+        ensures { λ r. ⌜ TurnOf self (now (message .entry)) resumes r ⌝ }
+    {
+        let judged = shape::judge(message);
         let kind = judged.kind;
+        if judged.number != 0 {
+            return Turn {
+                number: judged.number,
+                kind,
+                place: 0,
+            };
+        }
         if kind == shape::HELLO_REQUEST {
-            return self.passed();
+            return Turn {
+                number: 0,
+                kind,
+                place: 0,
+            };
         }
         let place = order::next(self.place, kind, resumes);
         if place == order::NOWHERE {
-            return self.refused(7);
+            return Turn {
+                number: 7,
+                kind,
+                place,
+            };
         }
         if kind == shape::FINISHED {
             if self.remembers(message) {
-                return self.taken(message, kind, place);
+                return Turn {
+                    number: 0,
+                    kind,
+                    place,
+                };
             }
-            return self.refused(7);
+            return Turn {
+                number: 7,
+                kind,
+                place,
+            };
         }
-        self.taken(message, kind, place)
-    }
-
-    fn refused(self, number: u8) -> Accepted
-        ensures { λ r. ⌜ (r .refusal ≡ refusalOf number) × (r .log ≡ self) ⌝ }
-    {
-        let refusal = refusal::refuse(number);
-        Accepted { refusal, log: self }
-    }
-
-    // A HelloRequest is not hashed; only what was checked is forgotten.
-    fn passed(self) -> Accepted
-        ensures { λ r. ⌜ (r .refusal ≡ refusalOf 0) × (r .log ≡ forgetting self) ⌝ }
-    {
-        let refusal = refusal::refuse(0);
-        let mut log = self;
-        log.checked = 0;
-        Accepted { refusal, log }
+        Turn {
+            number: 0,
+            kind,
+            place,
+        }
     }
 
     // Is this the Finished that was last checked equal?
@@ -109,68 +137,34 @@ impl Log {
         shape::carries(message, value)
     }
 
-    // A message that is in turn, hashed.
-    fn taken(self, message: &[u8], kind: u8, place: u8) -> Accepted
-        ensures { λ r. ⌜ Takes self (now (message .entry)) kind place r ⌝ }
+    // A message that is in turn is hashed, a HelloRequest is not. Either way what was checked is forgotten.
+    fn after(mut self, message: &[u8], kind: u8, place: u8) -> Log
+        ensures { λ r. ⌜ LogAfter self (now (message .entry)) kind place r ⌝ }
     {
-        let hash = self.hash;
-        let absorbed = hash.absorb(message);
-        let refusal = absorbed.refusal;
-        if refusal.number != 0 {
-            return Accepted { refusal, log: self };
+        self.checked = 0;
+        if kind == shape::HELLO_REQUEST {
+            return self;
         }
-        let next = absorbed.hash;
-        let session = self.session_with(next, kind);
-        let client = self.client_with(kind);
-        let server = self.server_with(kind);
-        let value = self.value;
-        Accepted {
-            refusal,
-            log: Log {
-                hash: next,
-                place,
-                session,
-                checked: 0,
-                value,
-                client,
-                server,
-            },
-        }
-    }
-
-    // The session hash is taken at the ClientKeyExchange and kept.
-    fn session_with(self, hash: Hash, kind: u8) -> [u8; 32]
-        ensures { λ r. ⌜ ((m : List ℕ) → Running hash m → r ≡ pick (eqb kind 16) (sha256 m) (self .session)) ⌝ }
-    {
+        self.hash = self.hash.more(message);
         if kind == shape::CLIENT_KEY_EXCHANGE {
-            return hash.digest();
+            let session = self.hash.digest();
+            self.session = session;
+            self.place = place;
+            return self;
         }
-        self.session
-    }
-
-    // A Finished that is taken is the one that was checked, so that its verify_data is at hand.
-    fn client_with(self, kind: u8) -> [u8; 12]
-        ensures { λ r. ⌜ ((h : History) → Placed (self .place) h → r ≡ pick (eqb kind 20 && isFrom client h) (self .value) (self .client)) ⌝ }
-    {
-        if kind != shape::FINISHED {
-            return self.client;
+        if kind == shape::FINISHED {
+            let value = self.value;
+            if order::from_server(self.place) {
+                self.server = value;
+                self.place = place;
+                return self;
+            }
+            self.client = value;
+            self.place = place;
+            return self;
         }
-        if order::from_server(self.place) {
-            return self.client;
-        }
-        self.value
-    }
-
-    fn server_with(self, kind: u8) -> [u8; 12]
-        ensures { λ r. ⌜ ((h : History) → Placed (self .place) h → r ≡ pick (eqb kind 20 && isFrom server h) (self .value) (self .server)) ⌝ }
-    {
-        if kind != shape::FINISHED {
-            return self.server;
-        }
-        if order::from_server(self.place) {
-            return self.value;
-        }
-        self.server
+        self.place = place;
+        self
     }
 
     pub fn session_hash(self) -> SessionHash

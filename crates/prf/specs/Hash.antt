@@ -1,8 +1,11 @@
 -- What HMAC and the PRF are stated over: a hash as a function on lists, the bytes of its block and the bytes of its digest.
 -- Another hash adds a record, not a definition.
 -- Assumes nothing.
+use mathlib.Core.Path.{_≡_}
 use mathlib.Core.List.{List}
-use Prim.Native.Nat.{ℕ}
+use Prim.Native.Nat.{ℕ, _≤_, _<_}
+use lib.ListN.{length}
+use Rattle.seqs.specs.Bytes.{Bytes}
 use Rattle.sha256.specs.Sha256.{sha256}
 
 pub record HashFunction : Type 0 where
@@ -12,3 +15,11 @@ pub record HashFunction : Type 0 where
 
 abbrev pub SHA256 : HashFunction
 SHA256 = record { hash = sha256; block = 64; width = 32 }
+
+-- what a lawful hash brings. RFC 2104, section 2: 'We denote by B the byte-length of such blocks .. and by L the byte-length of hash
+-- outputs'; a key longer than B is hashed to 'the resultant L byte string', which has to fit a block
+pub record Lawful (H : HashFunction) : Type 0 where
+  pub long : (m : List ℕ) → length (H .hash m) ≡ H .width
+  pub bytes : (m : List ℕ) → Bytes (H .hash m)
+  pub some : 0 < H .width
+  pub fits : H .width ≤ H .block

@@ -1,23 +1,24 @@
--- What the structs of the crate stand for.
+-- What the structs of the crate stand for, over a hash H.
 -- Assumes nothing.
 use mathlib.Core.Path.{_≡_}
 use mathlib.Core.List.{List, _++_}
-use Prim.Native.Nat.{ℕ, _*_}
-use lib.ListN.{length, take}
-use Rattle.sha256.specs.Running.{Running}
-use Rattle.prf.specs.Hash.{SHA256}
+use Prim.Native.Nat.{ℕ, suc, _*_}
+use lib.ListN.{drop}
+use Rattle.sha256.specs.Begins.{Begins}
+use Rattle.prf.specs.Hash.{HashFunction, SHA256}
 use Rattle.prf.specs.Hmac.{innerKey, outerKey}
 use Rattle.prf.specs.Prf.{A, expansion}
 use Rattle.prf.specs.declared.keyed.Keyed.{Keyed}
-use Rattle.prf.specs.declared.expand.Chained.{Chained}
 
--- both hashes have taken their block of the key k
-pub record KeyedBy (keyed : Keyed) (k : List ℕ) : Type 0 where
-  pub inner : Running (keyed .inner) (innerKey SHA256 k)
-  pub outer : Running (keyed .outer) (outerKey SHA256 k)
+-- i and o are hash values that have taken their block of the key k, and nothing else; Taken is the hash's own relation for that
+pub record Keys (H : HashFunction) {S : Type 0} (Taken : S → List ℕ → Type 0) (i o : S) (k : List ℕ) : Type 0 where
+  pub inner : Taken i (innerKey H k)
+  pub outer : Taken o (outerKey H k)
 
--- the hash has taken the inner block of the key and A(i), and the output holds the first i parts
-pub record ChainedTo (chained : Chained) (k seed : List ℕ) (i : ℕ) : Type 0 where
-  pub hash : Running (chained .hash) (innerKey SHA256 k ++ A SHA256 k seed i)
-  pub long : length (chained .out) ≡ 64
-  pub out : take (32 * i) (chained .out) ≡ expansion SHA256 k seed i
+abbrev pub KeyedBy : Keyed → List ℕ → Type 0
+KeyedBy keyed k = Keys SHA256 Begins (keyed .inner) (keyed .outer) k
+
+-- a is A(i + 1), and the first i parts of the output stand at the front of what was lent, the rest as it was
+pub record ChainedTo (H : HashFunction) (k seed : List ℕ) (i : ℕ) (a entry exit : List ℕ) : Type 0 where
+  pub last : a ≡ A H k seed (suc i)
+  pub out : exit ≡ expansion H k seed i ++ drop (H .width * i) entry

@@ -4,4 +4,3 @@ pub mod Prf
 pub mod Secrets
 pub mod Keyed
 pub mod Promise
-pub mod Laws

@@ -10,7 +10,7 @@ use Rattle.seqs.specs.Pick.{pick}
 use Rattle.refusal.specs.First.{firstOf}
 use Rattle.refusal.specs.Table.{refusalOf}
 use Rattle.refusal.specs.declared.Refusal.{Refusal}
-use Rattle.prf.specs.Hash.{SHA256}
+use Rattle.prf.specs.Hash.{HashFunction, SHA256}
 use Rattle.prf.specs.Hmac.{hmac}
 use Rattle.prf.specs.Secrets.{verifyData}
 use Rattle.prf.specs.declared.keyed.Tagged.{Tagged}
@@ -20,12 +20,12 @@ use Rattle.prf.specs.declared.secrets.Verified.{Verified}
 unfoldable pub hmacNumber : ℕ → ℕ → ℕ
 hmacNumber key message = firstOf ((10, ltb 65536 key) ∷ (10, ltb 65536 message) ∷ [])
 
+-- the tag, and zeros in its place where the call is refused
+abbrev pub tagOf : HashFunction → List ℕ → List ℕ → List ℕ
+tagOf H key message = pick (eqb (hmacNumber (length key) (length message)) 0) (hmac H key message) (replicate (H .width) 0)
+
 unfoldable pub taggedOf : List ℕ → List ℕ → Tagged
-taggedOf key message =
-    record {
-      refusal = refusalOf (hmacNumber (length key) (length message));
-      tag = pick (eqb (hmacNumber (length key) (length message)) 0) (hmac SHA256 key message) (replicate 32 0);
-    }
+taggedOf key message = record { refusal = refusalOf (hmacNumber (length key) (length message)); tag = tagOf SHA256 key message }
 
 -- 'Another seed length, a pre-master secret not 1 to 512 bytes, or an output under 48 is 10': the lengths of the pre-master secret, of
 -- the seed and of the output, with the seed's due length first
@@ -42,9 +42,9 @@ pub record Derives (number : ℕ) (secret entry exit : List ℕ) (r : Refusal) :
 unfoldable pub verifyNumber : ℕ → ℕ
 verifyNumber secret = firstOf ((10, not (eqb secret 48)) ∷ [])
 
+-- the value, and zeros in its place where the call is refused
+abbrev pub valueOf : HashFunction → List ℕ → Bool → List ℕ → List ℕ
+valueOf H secret server hash = pick (eqb (verifyNumber (length secret)) 0) (verifyData H secret server hash) (replicate 12 0)
+
 unfoldable pub verifiedOf : List ℕ → Bool → List ℕ → Verified
-verifiedOf secret server hash =
-    record {
-      refusal = refusalOf (verifyNumber (length secret));
-      value = pick (eqb (verifyNumber (length secret)) 0) (verifyData SHA256 secret server hash) (replicate 12 0);
-    }
+verifiedOf secret server hash = record { refusal = refusalOf (verifyNumber (length secret)); value = valueOf SHA256 secret server hash }

@@ -1,65 +1,38 @@
-// The chain A(i) and the output that it expands to.
+// The chain A(i) and the output that it expands to. Each part goes straight to where the caller wants it.
 ghost use mathlib.Core.Path.{_≡_};
 ghost use mathlib.Core.List.{List, _++_};
-ghost use Prim.Native.Nat.{ℕ, _+_, _≤_};
+ghost use Prim.Native.Nat.{ℕ, _*_, _≤_};
 ghost use lib.ListN.{length};
-ghost use lib.Seq.{paste};
-ghost use Rattle.sha256.specs.Running.{Running};
+ghost use Rattle.prf.specs.Hash.{SHA256};
+ghost use Rattle.prf.specs.Prf.{prf};
 ghost use Rattle.prf.specs.Keyed.{KeyedBy, ChainedTo};
 use crate::keyed::Keyed;
-use sha256::Hash;
 
-// A(i), as the hash that has taken it after the inner block of the key, and the first i parts of the output.
-pub(crate) struct Chained {
-    pub(crate) hash: Hash,
-    pub(crate) out: [u8; 64],
-}
-
-// Two pieces more.
-fn both(h: Hash, a: &[u8], b: &[u8]) -> Hash
-    requires { ⌜ (length (now a) ≤ 64) × (length (now b) ≤ 64) ⌝ }
-    ensures { λ r. ⌜ ((m : List ℕ) → length m ≤ 128 → Running h m → Running r (m ++ (now (a .entry) ++ now (b .entry)))) ⌝ }
+// A(i + 1), and the first i parts of the output to the front of out. A(0) is the label and the seed, A(i + 1) the HMAC of A(i), and
+// part i the HMAC of A(i), the label and the seed. Each part takes a level of the stack.
+fn chain(keyed: Keyed, label: &[u8], seed: &[u8], i: usize, out: &mut [u8]) -> [u8; 32]
+    requires { ⌜ (length (now label) ≤ 64) × (length (now seed) ≤ 64) × (32 * i ≤ length (now out)) ⌝ }
+    ensures { λ r. ⌜ ((k : List ℕ) → KeyedBy keyed k → ChainedTo SHA256 k (now (label .entry) ++ now (seed .entry)) i r (now (out .entry)) (now (out .exit))) ⌝ }
 {
-    let first = h.absorb(a);
-    let hash = first.hash;
-    let second = hash.absorb(b);
-    second.hash
-}
-
-// A part of the output at index at.
-fn placed(o: [u8; 64], at: usize, part: [u8; 32]) -> [u8; 64]
-    requires { ⌜ at + 32 ≤ 64 ⌝ }
-    ensures { λ r. ⌜ r ≡ paste o at part 32 ⌝ }
-{
-    let mut out = o;
-    let mut i = 0;
-    while i < 32 {
-        out[at + i] = part[i];
-        i += 1;
-    }
-    out
-}
-
-// A(0) is the label and the seed; A(i) is the HMAC of A(i - 1), and part i of the output that of A(i), the label and the seed.
-pub(crate) fn chain(keyed: Keyed, label: &[u8], seed: &[u8], i: usize) -> Chained
-    requires { ⌜ (length (now label) ≤ 64) × (length (now seed) ≤ 64) × (i ≤ 2) ⌝ }
-    ensures { λ r. ⌜ ((k : List ℕ) → KeyedBy keyed k → ChainedTo r k (now (label .entry) ++ now (seed .entry)) i) ⌝ }
-{
-    let inner = keyed.inner;
+    let none = &seed[..0];
     if i == 0 {
-        let start = both(inner, label, seed);
-        return Chained {
-            hash: start,
-            out: [0; 64],
-        };
+        return keyed.tag(none, label, seed);
     }
-    let before = chain(keyed, label, seed, i - 1);
-    let last = before.hash;
-    let a = keyed.tag(last);
-    let taken = inner.absorb(&a);
-    let hash = taken.hash;
-    let part = keyed.tag(both(hash, label, seed));
-    let old = before.out;
-    let out = placed(old, 32 * (i - 1), part);
-    Chained { hash, out }
+    let a = chain(keyed, label, seed, i - 1, out);
+    let part = keyed.tag(&a, label, seed);
+    octets::put(&mut out[32 * (i - 1)..], &part);
+    keyed.tag(none, none, &a)
+}
+
+// All of out is written: whole parts, and of the last what there is room for.
+pub(crate) fn expand(keyed: Keyed, label: &[u8], seed: &[u8], out: &mut [u8])
+    requires { ⌜ (length (now label) ≤ 64) × (length (now seed) ≤ 64) × (1 ≤ length (now out)) ⌝ }
+    ensures { λ _. ⌜ ((k : List ℕ) → KeyedBy keyed k → now (out .exit) ≡ prf SHA256 k (now (label .entry)) (now (seed .entry)) (length (now (out .entry)))) ⌝ }
+{
+    let i = (out.len() - 1) / 32;
+    let a = chain(keyed, label, seed, i, out);
+    let part = keyed.tag(&a, label, seed);
+    let at = 32 * i;
+    let n = out.len() - at;
+    octets::put(&mut out[at..], &part[..n]);
 }

@@ -1,15 +1,14 @@
-// HMAC: a key is taken once, into the two hashes that every message under it begins with.
+// HMAC: a key is taken once, into the two hash values that every message under it begins with.
 ghost use mathlib.Core.Path.{_≡_};
 ghost use mathlib.Core.List.{List, _++_};
-ghost use Prim.Native.Nat.{ℕ, _-_, _≤_};
+ghost use Prim.Native.Nat.{ℕ, _+_, _-_, _≤_};
 ghost use lib.ListN.{length, replicate};
-ghost use Rattle.sha256.specs.Running.{Running};
 ghost use Rattle.prf.specs.Hash.{SHA256};
-ghost use Rattle.prf.specs.Hmac.{keyBlock, mask, innerKey, hmac};
+ghost use Rattle.prf.specs.Hmac.{keyBlock, mask, hmac};
 ghost use Rattle.prf.specs.Keyed.{KeyedBy};
 ghost use Rattle.prf.specs.Promise.{taggedOf};
 use refusal::Refusal;
-use sha256::Hash;
+use sha256::State;
 
 #[repr(C)]
 pub struct Tagged {
@@ -17,10 +16,10 @@ pub struct Tagged {
     pub tag: [u8; 32],
 }
 
-// The hashes after the two blocks of a key.
+// The hash values after the two blocks of a key.
 pub(crate) struct Keyed {
-    pub(crate) inner: Hash,
-    pub(crate) outer: Hash,
+    pub(crate) inner: State,
+    pub(crate) outer: State,
 }
 
 // The most bytes of a key, and of a message.
@@ -32,11 +31,7 @@ fn padded(k: &[u8]) -> [u8; 64]
     ensures { λ r. ⌜ r ≡ now (k .entry) ++ replicate (64 - length (now (k .entry))) 0 ⌝ }
 {
     let mut b = [0u8; 64];
-    let mut i = 0;
-    while i < k.len() {
-        b[i] = k[i];
-        i += 1;
-    }
+    octets::put(&mut b, k);
     b
 }
 
@@ -65,34 +60,26 @@ fn masked(b: [u8; 64], x: u8) -> [u8; 64]
     r
 }
 
-// A hash that has taken b.
-fn begun(b: [u8; 64]) -> Hash
-    ensures { λ r. ⌜ Running r b ⌝ }
-{
-    let taken = Hash::fresh().absorb(&b);
-    taken.hash
-}
-
 impl Keyed {
     pub(crate) fn by(key: &[u8]) -> Keyed
         requires { ⌜ length (now key) ≤ 65536 ⌝ }
         ensures { λ r. ⌜ KeyedBy r (now (key .entry)) ⌝ }
     {
         let block = key_block(key);
-        let inner = begun(masked(block, 0x36));
-        let outer = begun(masked(block, 0x5c));
+        let inner = State::of_block(masked(block, 0x36));
+        let outer = State::of_block(masked(block, 0x5c));
         Keyed { inner, outer }
     }
 
-    // The tag of the text that a hash has taken after the inner block.
-    pub(crate) fn tag(self, text: Hash) -> [u8; 32]
-        ensures { λ r. ⌜ ((k m : List ℕ) → KeyedBy self k → Running text (innerKey SHA256 k ++ m) → r ≡ hmac SHA256 k m) ⌝ }
+    // The tag of a, b and c, one after the other.
+    pub(crate) fn tag(self, a: &[u8], b: &[u8], c: &[u8]) -> [u8; 32]
+        requires { ⌜ length (now a) + (length (now b) + length (now c)) ≤ 65536 ⌝ }
+        ensures { λ r. ⌜ ((k : List ℕ) → KeyedBy self k → r ≡ hmac SHA256 k (now (a .entry) ++ (now (b .entry) ++ now (c .entry)))) ⌝ }
     {
-        let digest = text.digest();
+        let inner = self.inner;
+        let digest = inner.ended(a, b, c);
         let outer = self.outer;
-        let taken = outer.absorb(&digest);
-        let whole = taken.hash;
-        whole.digest()
+        outer.ended_by(digest)
     }
 }
 
@@ -113,11 +100,8 @@ pub fn hmac(key: &[u8], message: &[u8]) -> Tagged
             tag: [0; 32],
         };
     }
-    let keyed = Keyed::by(key);
-    let inner = keyed.inner;
-    let taken = inner.absorb(message);
-    let text = taken.hash;
-    let tag = keyed.tag(text);
+    let none = &message[..0];
+    let tag = Keyed::by(key).tag(none, none, message);
     let refusal = refusal::refuse(0);
     Tagged { refusal, tag }
 }

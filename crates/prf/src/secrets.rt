@@ -1,12 +1,12 @@
 // The master secrets and the Finished values.
 ghost use mathlib.Core.Path.{_≡_};
 ghost use Prim.Native.Nat.{_≤_};
-ghost use lib.ListN.{length, take};
+ghost use lib.ListN.{length};
 ghost use Rattle.prf.specs.Hash.{SHA256};
 ghost use Rattle.prf.specs.Prf.{prf};
 ghost use Rattle.prf.specs.Secrets.{extendedMasterSecret, masterSecret, finishedLabel};
 ghost use Rattle.prf.specs.Promise.{secretNumber, Derives, verifiedOf};
-use crate::expand::chain;
+use crate::expand::expand;
 use crate::keyed::Keyed;
 use refusal::Refusal;
 
@@ -33,9 +33,7 @@ fn derive(pre_master: &[u8], label: &[u8], seed: &[u8], due: usize, out: &mut [u
     if out.len() < 48 {
         return refusal::refuse(10);
     }
-    let chained = chain(Keyed::by(pre_master), label, seed, 2);
-    let bytes = chained.out;
-    octets::put(out, &bytes[..48]);
+    expand(Keyed::by(pre_master), label, seed, &mut out[..48]);
     refusal::refuse(0)
 }
 
@@ -62,18 +60,6 @@ fn finished_label(server: bool) -> [u8; 15]
     *b"client finished"
 }
 
-fn front(b: [u8; 64]) -> [u8; 12]
-    ensures { λ r. ⌜ r ≡ take 12 b ⌝ }
-{
-    let mut r = [0u8; 12];
-    let mut i = 0;
-    while i < 12 {
-        r[i] = b[i];
-        i += 1;
-    }
-    r
-}
-
 // The verify_data of one side, from the hash of the log before its Finished.
 pub fn verify_data(secret: &[u8], server: bool, hash: [u8; 32]) -> Verified
     ensures { λ r. ⌜ r ≡ verifiedOf (now (secret .entry)) server hash ⌝ }
@@ -86,9 +72,8 @@ pub fn verify_data(secret: &[u8], server: bool, hash: [u8; 32]) -> Verified
         };
     }
     let label = finished_label(server);
-    let chained = chain(Keyed::by(secret), &label, &hash, 1);
-    let bytes = chained.out;
-    let value = front(bytes);
+    let mut value = [0u8; 12];
+    expand(Keyed::by(secret), &label, &hash, &mut value);
     let refusal = refusal::refuse(0);
     Verified { refusal, value }
 }

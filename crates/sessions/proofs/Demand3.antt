@@ -12,7 +12,8 @@ use lib.Dec.{eqb, ltb}
 use lib.ListN.{length, take, drop}
 use lib.Seq.{take-at}
 use borrow.Author.Tests.{eq-eqb, eqb-true, le-leb, ltb-false}
-use Rattle.seqs.specs.Flag.{yes, bit, yes-bit}
+use Rattle.seqs.specs.Flag.{yes, bit}
+use Rattle.seqs.proofs.Flag.{yes-bit}
 use Rattle.seqs.specs.Pick.{pick}
 use Rattle.refusal.specs.First.{firstOf}
 use Rattle.refusal.specs.Listed.{row-number}

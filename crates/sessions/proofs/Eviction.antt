@@ -7,7 +7,8 @@ use Prim.Native.Nat.{ℕ, _≤_, _<_}
 use native.Mathlib.Omega.{arith}
 use lib.ListN.{length}
 use borrow.Author.Tests.{eq-eqb, ne-eqb, lt-ltb, le-ltb, le-leb, lt-leb}
-use Rattle.seqs.specs.Cut.{cut, cut-past}
+use Rattle.seqs.specs.Cut.{cut}
+use Rattle.seqs.proofs.Cut.{cut-past}
 use Rattle.sessions.specs.Book.{Book, there, isOf, isNamed, holds, sought, fuller, fullest, struck}
 use Rattle.sessions.specs.Places.{place}
 use Rattle.sessions.proofs.Places.{place-strike, place-oldest, place-none}

@@ -8,7 +8,7 @@ use native.Mathlib.Omega.{arith}
 use lib.ListN.{length, take, drop-of-length-le}
 use lib.Seq.{take-append-seam}
 use borrow.Author.Tests.{le-leb, eq-eqb, ne-eqb}
-use Rattle.seqs.specs.Cut.{take-measure}
+use Rattle.seqs.proofs.Cut.{take-measure}
 use Rattle.seqs.specs.Flag.{yes}
 use Rattle.octets.specs.Put.{putList}
 use Rattle.octets.specs.Same.{same}

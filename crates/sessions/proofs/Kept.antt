@@ -10,7 +10,8 @@ use native.Mathlib.Omega.{arith}
 use lib.Dec.{leb, ltb}
 use lib.ListN.{length, getD}
 use borrow.Author.Tests.{ltb-true, ltb-false, leb-true, leb-false, eq-eqb, ne-eqb}
-use Rattle.seqs.specs.Cut.{cut, cut-past}
+use Rattle.seqs.specs.Cut.{cut}
+use Rattle.seqs.proofs.Cut.{cut-past}
 use Rattle.seqs.specs.Flag.{yes, bit}
 use Rattle.refusal.specs.Table.{refusalOf}
 use Rattle.refusal.specs.declared.Refusal.{Refusal}

@@ -13,7 +13,8 @@ use lib.ListN.{length, take, drop, getD, set, length-take, length-map, drop-of-l
 use lib.Seq.{drop-cons, getD-take, take-set-le, take-suc-set}
 use lib.Dec.{ltb}
 use borrow.Author.Tests.{ltb-true, ltb-false}
-use Rattle.seqs.specs.Cut.{cut, cut-past, take-measure, Shifted, shifted-none}
+use Rattle.seqs.specs.Cut.{cut}
+use Rattle.seqs.proofs.Cut.{cut-past, take-measure, Shifted, shifted-none}
 use Rattle.seqs.specs.Cases.{which}
 use Rattle.sessions.specs.Book.{Session, Book, many, oldest, strike, isOf}
 use Rattle.sessions.specs.Keeps.{sessionOf, bookOf}

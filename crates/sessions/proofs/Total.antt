@@ -10,7 +10,8 @@ use lib.Dec.{eqb}
 use lib.ListN.{length, take, replicate}
 use lib.Seq.{take-at}
 use borrow.Author.Tests.{ne-eqb, eq-eqb}
-use Rattle.seqs.specs.Flag.{yes, bit, yes-bit}
+use Rattle.seqs.specs.Flag.{yes, bit}
+use Rattle.seqs.proofs.Flag.{yes-bit}
 use Rattle.seqs.specs.Pick.{pick}
 use Rattle.seqs.specs.Cases.{which}
 use Rattle.refusal.specs.Table.{refusalOf}

@@ -1,9 +1,6 @@
-pub mod Bitwise
 pub mod ByteWords
-pub mod Hashing
-pub mod Taking
-pub mod Padded
+pub mod Alone
+pub mod FirstBlock
 pub mod OneShot
 pub mod Rolling
 pub mod Room
-pub mod Sealing

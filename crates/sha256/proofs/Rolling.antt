@@ -8,11 +8,13 @@ use native.Mathlib.Numerals.{add-one}
 use native.Mathlib.Omega.{arith}
 use lib.ListN.{length, take, drop, getD, length-append, length-drop, List·getD-append}
 use lib.Seq.{getD-take, getD-drop, getD-at, take-suc, take-all, drop-cons, ext-getD, length-take-le}
-use Rattle.seqs.specs.Tab.{tab, length-tab}
+use Rattle.seqs.specs.Tab.{tab}
+use Rattle.seqs.proofs.Tab.{length-tab}
+use Rattle.seqs.specs.Operations.{add}
 use Rattle.sha256.specs.Constants.{ks}
-use Rattle.sha256.specs.Compress.{next, schedule, roundOf, rounds}
+use Rattle.sha256.specs.Compress.{next, schedule, roundOf, rounds, plus}
 use Rattle.sha256.specs.Ring.{wordOf, Ring, Finds, Rings, EachRound, RingsExist}
-use Rattle.sha256.specs.declared.compress.State.{State}
+use Rattle.sha256.specs.Value.{Value}
 
 length-schedule : (n : ℕ) (b : List ℕ) → length (schedule n b) ≡ n + 16
 unfolding schedule
@@ -144,10 +146,10 @@ rings-exist b = (turns b, record { first = refl; others = λ turn h block t g r.
 
 -- ---- the rounds
 
-same-round : {r r′ : State} {k k′ w w′ : ℕ} → r ≡ r′ → k ≡ k′ → w ≡ w′ → roundOf r k w ≡ roundOf r′ k′ w′
+same-round : {r r′ : Value} {k k′ w w′ : ℕ} → r ≡ r′ → k ≡ k′ → w ≡ w′ → roundOf r k w ≡ roundOf r′ k′ w′
 same-round p q s = cc
 
-next-round : (s : State) (ws : List ℕ) (n : ℕ) → roundOf (rounds n s ws) (getD ks n 0) (getD ws n 0) ≡ rounds (suc n) s ws
+next-round : (s : Value) (ws : List ℕ) (n : ℕ) → roundOf (rounds n s ws) (getD ks n 0) (getD ws n 0) ≡ rounds (suc n) s ws
 unfolding rounds
 next-round s ws n = refl
 
@@ -155,7 +157,7 @@ constant : {k : List ℕ} (t i : ℕ) → i < 16 → k ≡ take 16 (drop t ks) �
 constant t i h e = ap (λ (l : List ℕ). getD l i 0) e ∙ getD-take 16 (drop t ks) i 0 h ∙ getD-drop t ks i 0
 
 -- round i of a turn finds its word of the schedule at place i of the ring, and its constant at place i of the turn's
-pub round-more : (s : State) (turn i : ℕ) {w b k : List ℕ} {v v′ : State} → turn < 4 → i < 16 → Ring w b (16 * turn) → k ≡ take 16 (drop (16 * turn) ks)
+pub round-more : (s : Value) (turn i : ℕ) {w b k : List ℕ} {v v′ : Value} → turn < 4 → i < 16 → Ring w b (16 * turn) → k ≡ take 16 (drop (16 * turn) ks)
     → v ≡ rounds (16 * turn + i) s (schedule 48 b) → v′ ≡ roundOf v (getD k i 0) (getD w i 0) → v′ ≡ rounds (16 * turn + (i + 1)) s (schedule 48 b)
 round-more s turn i {w} {b} g h r e p q =
     let t = 16 * turn + i in
@@ -166,6 +168,13 @@ round-more s turn i {w} {b} g h r e p q =
     ap (λ (x : ℕ). getD w x 0) (sym o) ∙ finds w b t (omega arith) (subst (λ (x : ℕ). Ring w b (16 * x)) (sym m) r) in
     q ∙ same-round p (constant (16 * turn) i h e) f ∙ next-round s (schedule 48 b) t ∙ ap (λ (x : ℕ). rounds x s (schedule 48 b)) n
 
-pub rounds-none : (s : State) (ws : List ℕ) → s ≡ rounds 0 s ws
+pub rounds-none : (s : Value) (ws : List ℕ) → s ≡ rounds 0 s ws
 unfolding rounds
 rounds-none s ws = refl
+
+-- and the sums behind the last
+pub summed : (s v : Value) {a b c d e f g h : ℕ} → a ≡ add 32 (s .a) (v .a) → b ≡ add 32 (s .b) (v .b) → c ≡ add 32 (s .c) (v .c) → d ≡ add 32 (s .d) (v .d)
+    → e ≡ add 32 (s .e) (v .e) → f ≡ add 32 (s .f) (v .f) → g ≡ add 32 (s .g) (v .g) → h ≡ add 32 (s .h) (v .h)
+    → record { a = a; b = b; c = c; d = d; e = e; f = f; g = g; h = h } ≡ plus s v
+unfolding plus
+summed s v p q r t u w x y = cc

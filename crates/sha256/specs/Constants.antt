@@ -2,7 +2,7 @@
 -- Assumes nothing.
 use mathlib.Core.List.{List, [], _∷_}
 use Prim.Native.Nat.{ℕ}
-use Rattle.sha256.specs.declared.compress.State.{State}
+use Rattle.sha256.specs.Value.{Value}
 
 -- 'a sequence of sixty-four constant 32-bit words' (FIPS 180-4, section 4.2.2)
 unfoldable pub ks : List ℕ
@@ -17,7 +17,7 @@ ks =
     ∷ 0x748f82ee ∷ 0x78a5636f ∷ 0x84c87814 ∷ 0x8cc70208 ∷ 0x90befffa ∷ 0xa4506ceb ∷ 0xbef9a3f7 ∷ 0xc67178f2 ∷ []
 
 -- 'the initial hash value, H(0)' (section 5.3.3)
-abbrev pub initial : State
+abbrev pub initial : Value
 initial =
     record {
       a = 0x6a09e667;

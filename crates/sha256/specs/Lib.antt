@@ -1,9 +1,11 @@
-pub mod Words
 pub mod Functions
+pub mod Value
 pub mod Constants
 pub mod Compress
 pub mod Ring
 pub mod Sha256
+pub mod Layout
 pub mod Running
+pub mod Begins
 pub mod Promise
 pub mod Laws

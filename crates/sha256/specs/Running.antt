@@ -2,30 +2,27 @@
 -- Assumes nothing.
 use mathlib.Core.Path.{_≡_}
 use mathlib.Core.List.{List}
-use Prim.Native.Nat.{ℕ, _+_, _*_, _≤_, _<_}
-use lib.ListN.{length, take, drop}
+use Prim.Native.Nat.{ℕ, _≤_}
+use lib.ListN.{length}
+use Rattle.seqs.specs.Taken.{Holds}
+use Rattle.sha256.specs.Layout.{valueOf}
 use Rattle.sha256.specs.Constants.{initial}
-use Rattle.sha256.specs.Sha256.{hashed}
+use Rattle.sha256.specs.Compress.{step}
 use Rattle.sha256.specs.declared.running.Hash.{Hash}
-
--- the whole blocks of m are in the state, and the rest of m waits at the front of the tail
-pub record Holds (hash : Hash) (m : List ℕ) : Type 0 where
-  pub full : ℕ
-  pub rest : ℕ
-  pub size : length m ≡ 64 * full + rest
-  pub room : rest < 64
-  pub taken : hash .length ≡ length m
-  pub state : hash .state ≡ hashed initial full m
-  pub tail : take rest (hash .tail) ≡ drop (64 * full) m
 
 -- 'Called directly, a hash takes at most 1,048,576 bytes from fresh'
 abbrev pub most : ℕ
 most = 1048576
 
--- the hash has taken m, and nothing else, from fresh
+-- the hash has taken m, and nothing else, from fresh: the whole blocks of m are in the state, the rest of m waits in the tail, with
+-- zeros behind it, and the length is that of m
 pub record Running (hash : Hash) (m : List ℕ) : Type 0 where
-  pub holds : Holds hash m
+  pub holds : Holds 64 step initial (valueOf (hash .state)) (hash .tail) (hash .length) m
   pub bounded : length m ≤ most
+
+-- so a running hash is one value for one message, however it was cut into pieces. The proof is proofs/Alone.antt.
+abbrev pub OneValue : Type 0
+OneValue = (h g : Hash) (m : List ℕ) → Running h m → Running g m → h ≡ g
 
 -- how many bytes a hash has taken
 unfoldable pub taken : Hash → ℕ

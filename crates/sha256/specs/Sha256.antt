@@ -5,16 +5,17 @@ use mathlib.Core.List.{List}
 use Prim.Native.Nat.{ℕ, _/_}
 use lib.ListN.{length}
 use Rattle.seqs.specs.Blocks.{after}
-use Rattle.seqs.specs.Padding.{pad, big}
+use Rattle.seqs.specs.Words.{big}
+use Rattle.seqs.specs.Padding.{pad}
+use Rattle.sha256.specs.Value.{Value}
 use Rattle.sha256.specs.Constants.{initial}
 use Rattle.sha256.specs.Compress.{step, output}
-use Rattle.sha256.specs.declared.compress.State.{State}
 
-unfoldable pub padded : List ℕ → List ℕ
+abbrev pub padded : List ℕ → List ℕ
 padded m = pad 64 8 big m
 
 -- H(k), the hash value after the first k blocks of m, begun at s
-unfoldable pub hashed : State → ℕ → List ℕ → State
+abbrev pub hashed : Value → ℕ → List ℕ → Value
 hashed s k m = after 64 step s k m
 
 unfoldable pub sha256 : List ℕ → List ℕ

@@ -4,11 +4,12 @@ ghost use mathlib.Core.Path.{_≡_};
 ghost use mathlib.Core.List.{List};
 ghost use Prim.Native.Nat.{ℕ, _+_, _-_, _*_, _/_, _≤_, _<_};
 ghost use lib.ListN.{length, take, drop};
+ghost use Rattle.sha256.specs.Value.{Value};
+ghost use Rattle.sha256.specs.Layout.{valueOf};
 ghost use Rattle.sha256.specs.Constants.{ks, initial};
 ghost use Rattle.sha256.specs.Compress.{schedule, roundOf, rounds, step, output};
 ghost use Rattle.sha256.specs.Ring.{Ring, Rolls};
 ghost use Rattle.sha256.specs.Sha256.{hashed};
-ghost use Rattle.sha256.specs.declared.compress.State.{State};
 use crate::words::add;
 use crate::words::big0;
 use crate::words::big1;
@@ -18,7 +19,7 @@ use crate::words::join;
 use crate::words::majority;
 use crate::words::next_word;
 
-// Eight words: the working variables of the rounds, or the hash value.
+// Eight words: the working variables of the rounds, or the hash value. Contracts speak of them as `Value` of specs/.
 #[repr(C)]
 pub struct State {
     pub a: u32,
@@ -152,7 +153,7 @@ fn rolled(w: [u32; 16]) -> [u32; 16]
 
 impl State {
     pub(crate) fn initial() -> State
-        ensures { λ r. ⌜ r ≡ initial ⌝ }
+        ensures { λ r. ⌜ valueOf r ≡ initial ⌝ }
     {
         State {
             a: 0x6a09e667,
@@ -167,7 +168,7 @@ impl State {
     }
 
     fn round(self, k: u32, w: u32) -> State
-        ensures { λ r. ⌜ r ≡ roundOf self k w ⌝ }
+        ensures { λ r. ⌜ valueOf r ≡ roundOf (valueOf self) k w ⌝ }
     {
         let s = add(
             add(
@@ -192,7 +193,7 @@ impl State {
     // Sixteen rounds bring each of the eight words back to its place: the compiler keeps them in registers and moves none.
     fn sixteen_rounds(self, w: [u32; 16], turn: usize) -> State
         requires { ⌜ turn < 4 ⌝ }
-        ensures { λ r. ⌜ ((s : State) (block : List ℕ) → Ring w block (16 * turn) → self ≡ rounds (16 * turn) s (schedule 48 block) → r ≡ rounds (16 * turn + 16) s (schedule 48 block)) ⌝ }
+        ensures { λ r. ⌜ ((s : Value) (block : List ℕ) → Ring w block (16 * turn) → valueOf self ≡ rounds (16 * turn) s (schedule 48 block) → valueOf r ≡ rounds (16 * turn + 16) s (schedule 48 block)) ⌝ }
     {
         let k = constants(turn);
         let r = self.round(k[0], w[0]);
@@ -215,7 +216,7 @@ impl State {
 
     // The 64 rounds of the block whose own words are first: four turns, and nothing is rolled behind the last.
     fn all_rounds(self, first: [u32; 16]) -> State
-        ensures { λ r. ⌜ ((block : List ℕ) → Ring first block 0 → r ≡ rounds 64 self (schedule 48 block)) ⌝ }
+        ensures { λ r. ⌜ ((block : List ℕ) → Ring first block 0 → valueOf r ≡ rounds 64 (valueOf self) (schedule 48 block)) ⌝ }
     {
         let mut w = first;
         let mut v = self;
@@ -234,7 +235,7 @@ impl State {
     // The block that starts at index at.
     pub(crate) fn compress(self, b: &[u8], at: usize) -> State
         requires { ⌜ at + 64 ≤ length (now b) ⌝ }
-        ensures { λ r. ⌜ r ≡ step self (take 64 (drop at (now (b .entry)))) ⌝ }
+        ensures { λ r. ⌜ valueOf r ≡ step (valueOf self) (take 64 (drop at (now (b .entry)))) ⌝ }
     {
         let v = self.all_rounds(load(b, at));
         State {
@@ -252,7 +253,7 @@ impl State {
     // Every whole block from index from on.
     pub(crate) fn blocks(self, b: &[u8], from: usize) -> State
         requires { ⌜ from ≤ length (now b) ⌝ }
-        ensures { λ r. ⌜ r ≡ hashed self ((length (now (b .entry)) - from) / 64) (drop from (now (b .entry))) ⌝ }
+        ensures { λ r. ⌜ valueOf r ≡ hashed (valueOf self) ((length (now (b .entry)) - from) / 64) (drop from (now (b .entry))) ⌝ }
     {
         let mut v = self;
         let mut at = from;
@@ -264,7 +265,7 @@ impl State {
     }
 
     pub(crate) fn output(self) -> [u8; 32]
-        ensures { λ r. ⌜ r ≡ output self ⌝ }
+        ensures { λ r. ⌜ r ≡ output (valueOf self) ⌝ }
     {
         bytes([
             self.a,

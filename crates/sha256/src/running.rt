@@ -5,8 +5,8 @@ ghost use Prim.Native.Nat.{ℕ, _+_, _-_, _≤_, _<_};
 ghost use lib.Dec.{ltb};
 ghost use lib.ListN.{length, take, drop, replicate};
 ghost use lib.Seq.{paste};
-ghost use Rattle.seqs.specs.Padding.{inBytes, big};
-ghost use Rattle.sha256.specs.Running.{Running, Holds, taken, most};
+ghost use Rattle.seqs.specs.Words.{big, inBytes};
+ghost use Rattle.sha256.specs.Running.{Running, taken, most};
 ghost use Rattle.sha256.specs.Sha256.{sha256};
 ghost use Rattle.sha256.specs.Promise.{Absorbs, digestedOf};
 use crate::compress::State;
@@ -15,7 +15,7 @@ use refusal::Refusal;
 #[repr(C)]
 pub struct Hash {
     pub state: State,
-    // what is left of the message behind its whole blocks: length % 64 bytes
+    // what is left of the message behind its whole blocks: length % 64 bytes, and zeros behind them
     pub tail: [u8; 64],
     // every byte taken so far
     pub length: u64,
@@ -37,26 +37,13 @@ pub struct Digested {
 const MOST: u64 = 1048576;
 
 // n bytes of b, from index from, at index at of the tail.
-fn fill(tail: &mut [u8; 64], at: usize, b: &[u8], from: usize, n: usize)
+pub(crate) fn fill(tail: &mut [u8; 64], at: usize, b: &[u8], from: usize, n: usize)
     requires { ⌜ (length (now tail) ≡ 64) × (at + n ≤ 64) × (from + n ≤ length (now b)) ⌝ }
     ensures { λ _. ⌜ now (tail .exit) ≡ paste (now (tail .entry)) at (drop from (now (b .entry))) n ⌝ }
 {
     let mut i = 0;
     while i < n {
         tail[at + i] = b[from + i];
-        i += 1;
-    }
-}
-
-// A one bit behind the first at bytes, and zeros to the end of the block.
-fn seal(block: &mut [u8; 64], at: usize)
-    requires { ⌜ (length (now block) ≡ 64) × (at < 64) ⌝ }
-    ensures { λ _. ⌜ now (block .exit) ≡ take at (now (block .entry)) ++ (128 ∷ replicate (63 - at) 0) ⌝ }
-{
-    block[at] = 128;
-    let mut i = at + 1;
-    while i < 64 {
-        block[i] = 0;
         i += 1;
     }
 }
@@ -88,20 +75,20 @@ impl Hash {
         }
     }
 
-    // More bytes, whatever the bound: the blocks are compressed where they lie, and only what is left over is copied.
-    fn more(self, bytes: &[u8]) -> Hash
-        requires { ⌜ self .length + length (now bytes) ≤ 2097152 ⌝ }
-        ensures { λ r. ⌜ (r .length ≡ self .length + length (now (bytes .entry))) × ((m : List ℕ) → Holds self m → Holds r (m ++ now (bytes .entry))) ⌝ }
+    // More bytes, for a caller that knows that there is room: the blocks are compressed where they lie, and only what is left over is
+    // copied. The sum wraps where there is none, so that every struct value is harmless.
+    pub fn more(self, bytes: &[u8]) -> Hash
+        ensures { λ r. ⌜ ((m : List ℕ) → Running self m → length m + length (now (bytes .entry)) ≤ most → Running r (m ++ now (bytes .entry))) ⌝ }
     {
         let mut next = self;
         let n = bytes.len();
         let at = (self.length % 64) as usize;
-        next.length = self.length + n as u64;
+        next.length = std::num::wrapping_add_u64(self.length, n as u64);
         if n < 64 - at {
             fill(&mut next.tail, at, bytes, 0, n);
             return next;
         }
-        let left = (at + n) % 64;
+        let left = (n - (64 - at)) % 64;
         let state = self.state;
         if at == 0 {
             next.state = state.blocks(bytes, 0);
@@ -111,12 +98,13 @@ impl Hash {
         fill(&mut next.tail, at, bytes, 0, 64 - at);
         let first = state.compress(&next.tail, 0);
         next.state = first.blocks(bytes, 64 - at);
+        next.tail = [0; 64];
         fill(&mut next.tail, 0, bytes, n - left, left);
         next
     }
 
     // Would n bytes more be too many?
-    fn exceeds(self, n: u64) -> bool
+    pub fn exceeds(self, n: u64) -> bool
         ensures { λ r. ⌜ r ≡ ltb most (taken self + n) ⌝ }
     {
         if MOST < self.length {
@@ -152,7 +140,7 @@ impl Hash {
         let at = (self.length % 64) as usize;
         let mut block = self.tail;
         let mut state = self.state;
-        seal(&mut block, at);
+        block[at] = 128;
         if 56 <= at {
             state = state.compress(&block, 0);
             block = [0; 64];

@@ -1,7 +1,7 @@
 -- A flag as 0 or 1.
 -- Assumes nothing.
 use Rattle.gateway.proofs.completion.flag.Statement.{statement}
-use Rattle.seqs.specs.Flag.{bit-no, bit-yes}
+use Rattle.seqs.proofs.Flag.{bit-no, bit-yes}
 use Rattle.gateway.proofs.completion.flag.Tie as tie
 
 returns : tie.Need-returns

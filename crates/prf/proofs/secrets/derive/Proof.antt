@@ -1,12 +1,15 @@
 -- Refused by a length, or the first 48 bytes of the output.
 -- Assumes nothing.
-use mathlib.Core.Path.{sym}
+use mathlib.Core.Path.{_≡_, sym, ap}
+use mathlib.Core.List.{List, _++_}
+use Prim.Native.Nat.{ℕ}
+use lib.ListN.{length, drop}
 use native.Mathlib.Omega.{arith}
-use lib.ListN.{length}
 use lib.Seq.{length-take-le}
+use Rattle.prf.specs.Hash.{SHA256}
+use Rattle.prf.specs.Prf.{prf}
 use Rattle.prf.proofs.Numbers.{secret-none, secret-long, secret-seed, secret-out, secret-done}
 use Rattle.prf.proofs.Answers.{derived, underived}
-use Rattle.prf.proofs.Fronts.{front-of, put-48}
 use borrow.Author.Needs.{needs}
 use Rattle.prf.proofs.secrets.derive.Statement.{statement}
 use Rattle.prf.proofs.secrets.derive.Tie as tie
@@ -46,19 +49,14 @@ returns-4 c =
 by-requires : tie.Need-by-requires
 by-requires c κs = search needs
 
-chain-requires : tie.Need-chain-requires
-chain-requires c κs = search needs
+slice-relend-prefix-expand : tie.Need-slice-relend-prefix-expand
+slice-relend-prefix-expand c = search needs
 
-array-share-prefix-bytes : tie.Need-array-share-prefix-bytes
-array-share-prefix-bytes c = omega (arith, c .before .before .chain .ensures _ (c .before .before .before .by .ensures) .long)
+slice-aggregate-expand : tie.Need-slice-aggregate-expand
+slice-aggregate-expand c = sym (length-take-le _ (c .before .before .before .before .before .before .before .before .before .before .args .out .now) (omega arith))
 
-slice-aggregate-put : tie.Need-slice-aggregate-put
-slice-aggregate-put c =
-    let l = c .before .before .before .chain .ensures _ (c .before .before .before .before .by .ensures) .long in
-    sym (length-take-le _ (c .before .before .before .chain .result .out) (omega arith))
-
-put-requires : tie.Need-put-requires
-put-requires c κs = search needs
+expand-requires : tie.Need-expand-requires
+expand-requires c κs = omega (arith, slice-aggregate-expand c)
 
 refuse-requires-5 : tie.Need-refuse-requires-5
 refuse-requires-5 c κs = search needs
@@ -68,12 +66,15 @@ same-length c = search needs
 
 returns-5 : tie.Need-returns-5
 returns-5 c =
-    let a = c .before .before .before .before .before .before .before .before .before .before .before .before .before .before .before .before .before .args in
+    let x = c .before .before .before in
+    let w = x .before .before .before in
+    let a = w .before .before .before .before .before .before .before .before .args in
     let k = a .pre-master .now in
-    let l = c .before .before .before .before .before .before .before .chain .ensures k (c .before .before .before .before .before .before .before .before .by .ensures) in
-    derived _ (a .out .now) _ (c .refuse5 .ensures)
-    (secret-done (a .due) _ _ (length (a .out .now)) (c .before .before .before .before .before .before .before .before .before .before .before .before .if1 .left) (c .before .before .before .before .before .before .before .before .before .before .before .if2 .left) (c .before .before .before .before .before .before .before .before .before .before .if3 .left) (c .before .before .before .before .before .before .before .before .before .if4 .left))
-    (rw (← front-of k (a .label .now) (a .seed .now) 48 l (omega arith)) (put-48 (a .out .now) _ (c .before .before .before .before .before .before .before .chain .result .out) (l .long) (c .before .before .before .before .before .before .before .before .before .if4 .left) (c .before .before .before .put .ensures .1)))
+    let out = a .out .now in
+    let v : x .expand .last .1 .1 .1 .0 ≡ prf SHA256 k (a .label .now) (a .seed .now) 48 = rw (← slice-aggregate-expand (x .before)) at (x .expand .ensures k (x .before .before .by .ensures)) in
+    derived _ out _ (c .refuse5 .ensures)
+    (secret-done (a .due) _ _ (length out) (w .before .before .before .if1 .left) (w .before .before .if2 .left) (w .before .if3 .left) (w .if4 .left))
+    (ap (λ (r : List ℕ). r ++ drop 48 out) v)
 
 pub derive-spec : {M : Type 1} → statement M
 derive-spec =
@@ -88,10 +89,9 @@ derive-spec =
     refuse-requires-4
     returns-4
     by-requires
-    chain-requires
-    array-share-prefix-bytes
-    slice-aggregate-put
-    put-requires
+    slice-relend-prefix-expand
+    slice-aggregate-expand
+    expand-requires
     refuse-requires-5
     same-length
     returns-5)

@@ -1,11 +1,8 @@
 -- Refused by the secret's length, or the first 12 bytes of the output.
 -- Assumes nothing.
-use mathlib.Core.Path.{_∙_}
-use native.Mathlib.Omega.{arith}
-use Rattle.prf.specs.Secrets.{verifyData, finishedLabel}
+use Rattle.prf.specs.Secrets.{verifyData}
 use Rattle.prf.proofs.Numbers.{verify-other, verify-done}
 use Rattle.prf.proofs.Answers.{verified, unverified}
-use Rattle.prf.proofs.Fronts.{front-of}
 use borrow.Author.Needs.{needs}
 use Rattle.prf.proofs.secrets.verify_data.Statement.{statement}
 use Rattle.prf.proofs.secrets.verify_data.Tie as tie
@@ -24,17 +21,17 @@ finished-label-requires c κs = search needs
 by-requires : tie.Need-by-requires
 by-requires c κs = search needs
 
-slice-aggregate-chain : tie.Need-slice-aggregate-chain
-slice-aggregate-chain c = search needs
+slice-aggregate-expand : tie.Need-slice-aggregate-expand
+slice-aggregate-expand c = search needs
 
-slice-aggregate-chain-2 : tie.Need-slice-aggregate-chain-2
-slice-aggregate-chain-2 c = search needs
+slice-aggregate-expand-2 : tie.Need-slice-aggregate-expand-2
+slice-aggregate-expand-2 c = search needs
 
-chain-requires : tie.Need-chain-requires
-chain-requires c κs = search needs
+slice-aggregate-expand-3 : tie.Need-slice-aggregate-expand-3
+slice-aggregate-expand-3 c = search needs
 
-front-requires : tie.Need-front-requires
-front-requires c κs = search needs
+expand-requires : tie.Need-expand-requires
+expand-requires c κs = search needs
 
 refuse-requires-2 : tie.Need-refuse-requires-2
 refuse-requires-2 c κs = search needs
@@ -42,11 +39,12 @@ refuse-requires-2 c κs = search needs
 returns-2 : tie.Need-returns-2
 unfolding verifyData
 returns-2 c =
-    let a = c .before .before .before .before .before .before .before .before .before .before .args in
+    let x = c .before .before in
+    let b = x .before .before .before .before in
+    let a = b .before .before .before .before .args in
     let k = a .secret .now in
-    let l = rw (c .before .before .before .before .before .before .before .finished-label .ensures) at (c .before .before .before .chain .ensures k (c .before .before .before .before .before .before .by .ensures)) in
-    verified k (a .t3) (a .server) _ _ (c .refuse2 .ensures) (verify-done _ (c .before .before .before .before .before .before .before .before .if1 .left))
-    (c .before .front .ensures ∙ front-of k (finishedLabel (a .server)) (a .t3) 12 l (omega arith))
+    verified k (a .t3) (a .server) _ _ (c .refuse2 .ensures) (verify-done _ (b .before .before .if1 .left))
+    (rw (b .before .finished-label .ensures) at (x .expand .ensures k (b .by .ensures)))
 
 pub verify-data-spec : {M : Type 1} → statement M
 verify-data-spec =
@@ -56,9 +54,9 @@ verify-data-spec =
     returns
     finished-label-requires
     by-requires
-    slice-aggregate-chain
-    slice-aggregate-chain-2
-    chain-requires
-    front-requires
+    slice-aggregate-expand
+    slice-aggregate-expand-2
+    slice-aggregate-expand-3
+    expand-requires
     refuse-requires-2
     returns-2)

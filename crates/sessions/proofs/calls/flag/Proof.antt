@@ -1,7 +1,7 @@
 -- 0 is no, everything else is yes.
 -- Assumes nothing.
 use Rattle.sessions.proofs.calls.flag.Statement.{statement}
-use Rattle.seqs.specs.Flag.{bit-no, bit-yes}
+use Rattle.seqs.proofs.Flag.{bit-no, bit-yes}
 use Rattle.sessions.proofs.calls.flag.Tie as tie
 
 returns : tie.Need-returns

@@ -3,19 +3,19 @@
 use mathlib.Core.Path.{_≡_, refl}
 use Prim.Native.Nat.{_-_, _≤_}
 use native.Mathlib.Numerals.{add-one}
-use lib.ListN.{drop}
+use lib.ListN.{take, drop}
 use Rattle.seqs.specs.Tab.{tab}
 use Rattle.seqs.specs.Fill.{Filled, filled-none, filled-more, filled-all}
-use Rattle.sha256.specs.Words.{wordsOf}
+use Rattle.seqs.specs.Words.{big, wordsOf}
 use Rattle.sha256.specs.Compress.{schedule}
-use Rattle.sha256.proofs.ByteWords.{word-drop, words-take}
+use Rattle.sha256.proofs.ByteWords.{word-at}
 use native.Mathlib.Omega.{arith}
 use borrow.Author.Needs.{needs}
 use Rattle.sha256.proofs.compress.load.Statement.{statement}
 use Rattle.sha256.proofs.compress.load.Tie as tie
 
 abbrev Inv-loop : tie.InvT-loop
-Inv-loop b at w₀ t₀ w t = (t ≤ 16) × Filled w 16 (wordsOf t (drop at b)) t
+Inv-loop b at w₀ t₀ w t = (t ≤ 16) × Filled w 16 (wordsOf big 4 t (take 64 (drop at b))) t
 
 abbrev μ-loop : tie.MeasureT-loop
 μ-loop b at w₀ t₀ w t = 16 - t
@@ -71,7 +71,7 @@ unfolding tab
 loop-again c =
     let l = c .before .before .before .before .before .before in
     let a = l .before .before .args in
-    (omega arith, filled-more (c .join .result) (l .loop .inv .1) (omega arith) refl (rw (add-one, c .join .ensures, word-drop (a .b .now) (a .at) (l .loop .t))))
+    (omega arith, filled-more (c .join .result) (l .loop .inv .1) (omega arith) refl (rw (add-one, c .join .ensures, word-at (a .b .now) (a .at) (l .loop .t) (l .before .before .pre) (omega arith))))
 
 returns : tie.Need-returns Inv-loop μ-loop
 unfolding schedule
@@ -79,7 +79,7 @@ returns c =
     let l = c .before in
     let a = l .before .before .args in
     let e : l .loop .t ≡ 16 = omega arith in
-    rw (words-take (drop (a .at) (a .b .now)) 16 (omega arith)) (rw e at (filled-all (l .loop .inv .1) (omega arith)))
+    rw e at (filled-all (l .loop .inv .1) (omega arith))
 
 pub load-spec : {M : Type 1} → statement M
 load-spec =

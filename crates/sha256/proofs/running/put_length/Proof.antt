@@ -1,6 +1,6 @@
 -- Eight stores are the number in 8 bytes.
 -- Assumes nothing.
-use Rattle.sha256.proofs.Sealing.{length-put}
+use Rattle.sha256.proofs.ByteWords.{length-put}
 use borrow.Author.Needs.{needs}
 use Rattle.sha256.proofs.running.put_length.Statement.{statement}
 use Rattle.sha256.proofs.running.put_length.Tie as tie

@@ -1,6 +1,7 @@
 -- The hash of a whole message, or the refusal.
 -- Assumes nothing.
 use mathlib.Core.Path.{sym, _∙_, ap}
+use mathlib.Core.List.{[]}
 use Prim.Native.Nat.{_≤_}
 use native.Mathlib.Omega.{arith}
 use lib.ListN.{length}
@@ -37,7 +38,7 @@ returns-2 c =
     let m = c .before .before .before .before .before .before .args .message .now in
     let w : length m ≤ most = omega arith in
     digested m (c .refuse2 .result) (c .refuse2 .ensures ∙ ap refusalOf (sym (number-within 0 (length m) (omega arith)))) (c .before .digest .result) w
-    (c .before .digest .ensures m (record { holds = c .before .before .more .ensures .1 _ (c .before .before .before .fresh .ensures .holds); bounded = w }))
+    (c .before .digest .ensures m (c .before .before .more .ensures [] (c .before .before .before .fresh .ensures) (omega arith)))
 
 pub sha256-spec : {M : Type 1} → statement M
 sha256-spec =

@@ -1,6 +1,6 @@
 -- `sha256::words::add` is the sum modulo 2 ^ 32.
 -- Assumes nothing.
-use Rattle.sha256.specs.Functions.{add32}
+use Rattle.seqs.specs.Operations.{add}
 use borrow.Author.Needs.{needs}
 use Rattle.sha256.proofs.words.add.Statement.{statement}
 use Rattle.sha256.proofs.words.add.Tie as tie
@@ -9,7 +9,7 @@ wrapping-add-u32-requires : tie.Need-wrapping-add-u32-requires
 wrapping-add-u32-requires c κs = search needs
 
 returns : tie.Need-returns
-unfolding add32
+unfolding add
 returns c = c .wrapping-add-u32 .ensures
 
 pub add-spec : {M : Type 1} → statement M

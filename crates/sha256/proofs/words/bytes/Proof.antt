@@ -7,14 +7,14 @@ use native.Mathlib.Omega.{arith}
 use borrow.Author.Needs.{needs}
 use lib.ListN.{length, take, getD}
 use lib.Seq.{take-all}
-use Rattle.sha256.proofs.ByteWords.{bytesOf-more, four}
+use Rattle.sha256.proofs.ByteWords.{four-more, four}
 use Rattle.seqs.specs.Fill.{Filled, filled-none, filled-run, filled-all}
-use Rattle.sha256.specs.Words.{bytesOf}
+use Rattle.seqs.specs.Words.{big, bytesOf}
 use Rattle.sha256.proofs.words.bytes.Statement.{statement}
 use Rattle.sha256.proofs.words.bytes.Tie as tie
 
 abbrev Inv-loop : tie.InvT-loop
-Inv-loop w b₀ t₀ b t = Filled b 32 (bytesOf (take t w)) (4 * t)
+Inv-loop w b₀ t₀ b t = Filled b 32 (bytesOf big 4 (take t w)) (4 * t)
 
 abbrev μ-loop : tie.MeasureT-loop
 μ-loop w b₀ t₀ b t = 8 - t
@@ -86,7 +86,7 @@ loop-again c =
     let w = c .before .before .args .t1 in
     let n : length w ≡ 8 = search needs in
     rw (add-one (4 * l .t), add-two (4 * l .t), add-three (4 * l .t))
-    (filled-run (four (getD w (l .t) 0)) (l .inv) (omega arith) (omega arith) (bytesOf-more w (l .t) (omega arith)))
+    (filled-run (four (getD w (l .t) 0)) (l .inv) (omega arith) (omega arith) (four-more w (l .t) (omega arith)))
 
 returns : tie.Need-returns Inv-loop μ-loop
 returns c =

@@ -1,8 +1,8 @@
 -- `sha256::words::choice` is what its document says, by a law of digits.
 -- Assumes nothing.
 use native.Mathlib.Omega.{arith}
-use Rattle.sha256.specs.Functions.{ch}
-use Rattle.sha256.proofs.Bitwise.{choice}
+use Rattle.seqs.specs.Operations.{ch}
+use Rattle.seqs.proofs.Bitwise.{choice}
 use Rattle.sha256.proofs.words.choice.Statement.{statement}
 use Rattle.sha256.proofs.words.choice.Tie as tie
 

@@ -1,8 +1,8 @@
 -- `sha256::words::majority` is what its document says, by a law of digits.
 -- Assumes nothing.
 use native.Mathlib.Omega.{arith}
-use Rattle.sha256.specs.Functions.{maj}
-use Rattle.sha256.proofs.Bitwise.{majority}
+use Rattle.seqs.specs.Operations.{maj}
+use Rattle.seqs.proofs.Bitwise.{majority}
 use Rattle.sha256.proofs.words.majority.Statement.{statement}
 use Rattle.sha256.proofs.words.majority.Tie as tie
 

@@ -11,22 +11,22 @@ key-block-requires c κs = search needs
 masked-requires : tie.Need-masked-requires
 masked-requires c κs = search needs
 
-begun-requires : tie.Need-begun-requires
-begun-requires c κs = search needs
+of-block-requires : tie.Need-of-block-requires
+of-block-requires c κs = search needs
 
 masked-requires-2 : tie.Need-masked-requires-2
 masked-requires-2 c κs = search needs
 
-begun-requires-2 : tie.Need-begun-requires-2
-begun-requires-2 c κs = search needs
+of-block-requires-2 : tie.Need-of-block-requires-2
+of-block-requires-2 c κs = search needs
 
 returns : tie.Need-returns
 unfolding innerKey outerKey
 returns c =
     let k = c .before .before .before .before .key-block .ensures in
     record {
-      inner = rw (← k, ← c .before .before .before .masked .ensures) (c .before .before .begun .ensures);
-      outer = rw (← k, ← c .before .masked2 .ensures) (c .begun2 .ensures);
+      inner = rw (c .before .before .before .masked .ensures, k) at (c .before .before .of-block .ensures);
+      outer = rw (c .before .masked2 .ensures, k) at (c .of-block2 .ensures);
     }
 
 pub by-spec : {M : Type 1} → statement M
@@ -35,7 +35,7 @@ by-spec =
     (tie.spec
     key-block-requires
     masked-requires
-    begun-requires
+    of-block-requires
     masked-requires-2
-    begun-requires-2
+    of-block-requires-2
     returns)

@@ -4,7 +4,7 @@ use mathlib.Core.Path.{_≡_}
 use Prim.Native.Nat.{_+_, _-_, _≤_, max}
 use lib.ListN.{length}
 use Rattle.seqs.specs.Array.{length-mapped}
-use Rattle.seqs.specs.Cut.{Shifted, shifted-none, shifted-more}
+use Rattle.seqs.proofs.Cut.{Shifted, shifted-none, shifted-more}
 use Rattle.sessions.proofs.Places.{noEntry, book-renewed}
 use native.Mathlib.Omega.{arith}
 use borrow.Author.Needs.{needs}

@@ -5,7 +5,7 @@ use Prim.Native.Nat.{_+_, _-_, _≤_}
 use lib.ListN.{length}
 use Rattle.sessions.specs.Keeps.{bookOf}
 use Rattle.seqs.specs.Array.{length-mapped}
-use Rattle.seqs.specs.Cut.{cut-past, Shifted, shifted-none, shifted-more}
+use Rattle.seqs.proofs.Cut.{cut-past, Shifted, shifted-none, shifted-more}
 use Rattle.sessions.proofs.Places.{noEntry, book-cut}
 use native.Mathlib.Omega.{arith}
 use borrow.Author.Needs.{needs}

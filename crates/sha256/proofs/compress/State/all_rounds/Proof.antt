@@ -4,6 +4,7 @@ use mathlib.Core.Path.{_≡_, sym, _∙_, ap, subst}
 use mathlib.Core.Logic.{⊎-elim}
 use mathlib.Core.List.{List}
 use Prim.Native.Nat.{ℕ, _+_, _-_, _*_, _≤_}
+use Rattle.sha256.specs.Layout.{valueOf}
 use Rattle.sha256.specs.Compress.{schedule, rounds}
 use Rattle.sha256.specs.Ring.{Ring}
 use Rattle.sha256.proofs.Rolling.{rounds-none}
@@ -14,7 +15,7 @@ use Rattle.sha256.proofs.compress.State.all_rounds.Tie as tie
 
 abbrev Inv-loop : tie.InvT-loop
 Inv-loop w₀ v₀ turn₀ w v turn =
-    (turn ≤ 4) × ((b : List ℕ) → Ring w₀ b 0 → (turn ≤ 3 → Ring w b (16 * turn)) × (v ≡ rounds (16 * turn) v₀ (schedule 48 b)))
+    (turn ≤ 4) × ((b : List ℕ) → Ring w₀ b 0 → (turn ≤ 3 → Ring w b (16 * turn)) × (valueOf v ≡ rounds (16 * turn) (valueOf v₀) (schedule 48 b)))
 
 abbrev μ-loop : tie.MeasureT-loop
 μ-loop w₀ v₀ turn₀ w v turn = 4 - turn
@@ -45,14 +46,14 @@ loop-again c =
             (λ x. subst (λ (w : List ℕ). Ring w b (16 * (l .loop .turn + 1))) (sym (x .2)) (subst (λ (i : ℕ). Ring (x .1 .result) b i) n (x .1 .ensures b (16 * l .loop .turn) (omega arith) (l .loop .inv .1 b r .0 (omega arith)))))
             (λ x. absurd (omega (arith, x .0 .left)))
             (c .if1 .came),
-        c .before .sixteen-rounds .ensures _ b (l .loop .inv .1 b r .0 (omega arith)) (l .loop .inv .1 b r .1) ∙ ap (λ (i : ℕ). rounds i (l .before .args .self) (schedule 48 b)) n,
+        c .before .sixteen-rounds .ensures _ b (l .loop .inv .1 b r .0 (omega arith)) (l .loop .inv .1 b r .1) ∙ ap (λ (i : ℕ). rounds i (valueOf (l .before .args .self)) (schedule 48 b)) n,
       ),
     )
 
 returns : tie.Need-returns Inv-loop μ-loop
 returns c b r =
     let e : c .before .loop .turn ≡ 4 = omega arith in
-    c .before .loop .inv .1 b r .1 ∙ ap (λ (i : ℕ). rounds (16 * i) (c .before .before .args .self) (schedule 48 b)) e
+    c .before .loop .inv .1 b r .1 ∙ ap (λ (i : ℕ). rounds (16 * i) (valueOf (c .before .before .args .self)) (schedule 48 b)) e
 
 pub all-rounds-spec : {M : Type 1} → statement M
 all-rounds-spec =

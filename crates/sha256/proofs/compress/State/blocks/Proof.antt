@@ -4,14 +4,16 @@ use mathlib.Core.Path.{_≡_}
 use Prim.Native.Nat.{suc, _+_, _-_, _/_, _%_, _≤_}
 use lib.ListN.{length, drop}
 use Rattle.sha256.specs.Sha256.{hashed}
-use Rattle.sha256.proofs.Hashing.{hashed-none, hashed-more}
+use Rattle.seqs.proofs.Blocks.{after-none, after-more}
+use Rattle.sha256.specs.Layout.{valueOf}
+use Rattle.sha256.specs.Compress.{step}
 use native.Mathlib.Omega.{arith}
 use borrow.Author.Needs.{needs}
 use Rattle.sha256.proofs.compress.State.blocks.Statement.{statement}
 use Rattle.sha256.proofs.compress.State.blocks.Tie as tie
 
 abbrev Inv-loop : tie.InvT-loop
-Inv-loop b from v₀ at₀ v at = (from ≤ at) × (at ≤ length b) × ((at - from) % 64 ≡ 0) × (v ≡ hashed v₀ ((at - from) / 64) (drop from b))
+Inv-loop b from v₀ at₀ v at = (from ≤ at) × (at ≤ length b) × ((at - from) % 64 ≡ 0) × (valueOf v ≡ hashed (valueOf v₀) ((at - from) / 64) (drop from b))
 
 abbrev μ-loop : tie.MeasureT-loop
 μ-loop b from v₀ at₀ v at = length b - at
@@ -19,7 +21,7 @@ abbrev μ-loop : tie.MeasureT-loop
 loop-holds : tie.Need-loop-holds Inv-loop μ-loop
 loop-holds c =
     let z : (c .before .args .from - c .before .args .from) / 64 ≡ 0 = omega arith in
-    (omega arith, omega arith, omega arith, rw z (hashed-none _ _))
+    (omega arith, omega arith, omega arith, rw z (after-none 64 step _ _))
 
 sub-loop : tie.Need-sub-loop Inv-loop μ-loop
 sub-loop c = omega arith
@@ -38,7 +40,7 @@ loop-again c =
     let l = c .before .before in
     let a = l .before .before .args in
     let n : (l .loop .at + 64 - a .from) / 64 ≡ suc ((l .loop .at - a .from) / 64) = omega arith in
-    (omega arith, omega arith, omega arith, rw (n, c .compress .ensures, l .loop .inv .3) (hashed-more _ (a .b .now) (a .from) _ (l .loop .at) (omega arith)))
+    (omega arith, omega arith, omega arith, rw (n, c .compress .ensures, l .loop .inv .3) (after-more 64 step _ (a .b .now) (a .from) _ (l .loop .at) (omega arith)))
 
 returns : tie.Need-returns Inv-loop μ-loop
 returns c =

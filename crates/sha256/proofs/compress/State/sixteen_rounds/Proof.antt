@@ -3,6 +3,7 @@
 use mathlib.Core.Path.{_≡_, _∙_, ap}
 use Prim.Native.Nat.{ℕ, _+_, _*_}
 use native.Mathlib.Omega.{arith}
+use Rattle.sha256.specs.Layout.{valueOf}
 use Rattle.sha256.specs.Compress.{schedule, rounds}
 use Rattle.sha256.proofs.Rolling.{round-more}
 use borrow.Author.Needs.{needs}
@@ -180,7 +181,7 @@ returns c s block ring h =
     let four = c0 .before .pre in
     let k = c0 .constants .ensures in
     let z : t ≡ t + 0 = omega arith in
-    let v0 : c0 .before .args .self ≡ rounds (t + 0) s (schedule 48 block) = h ∙ ap (λ (i : ℕ). rounds i s (schedule 48 block)) z in
+    let v0 : valueOf (c0 .before .args .self) ≡ rounds (t + 0) s (schedule 48 block) = h ∙ ap (λ (i : ℕ). rounds i s (schedule 48 block)) z in
     let v1 = round-more s turn 0 four (omega arith) ring k v0 (c1 .round .ensures) in
     let v2 = round-more s turn 1 four (omega arith) ring k v1 (c2 .round2 .ensures) in
     let v3 = round-more s turn 2 four (omega arith) ring k v2 (c3 .round3 .ensures) in

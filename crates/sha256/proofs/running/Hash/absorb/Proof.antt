@@ -4,7 +4,7 @@ use mathlib.Core.Path.{refl, sym, _∙_, ap}
 use Prim.Native.Nat.{_+_, _≤_, _<_}
 use native.Mathlib.Omega.{arith}
 use borrow.Author.Tests.{ltb-true, ltb-false}
-use lib.ListN.{length, length-append}
+use lib.ListN.{length}
 use Rattle.refusal.specs.Table.{refusalOf}
 use Rattle.sha256.specs.Running.{taken, most}
 use Rattle.sha256.specs.Laws.{number-over, number-within}
@@ -29,15 +29,11 @@ returns c =
     record {
       refusal = c .refuse2 .ensures ∙ ap refusalOf (sym (number-over (a .self .length) (length (a .bytes .now)) w));
       refused = λ _. refl;
-      runs = λ m h g. absurd (omega (arith, h .holds .taken));
+      runs = λ m h g. absurd (omega (arith, h .holds .counted));
     }
 
 more-requires : tie.Need-more-requires
-unfolding taken
-more-requires c κs =
-    let a = c .before .before .before .before .args in
-    let w : a .self .length + length (a .bytes .now) ≤ most = ltb-false most _ (sym (c .before .exceeds .ensures) ∙ c .if1 .left) in
-    omega arith
+more-requires c κs = search needs
 
 returns-2 : tie.Need-returns-2
 unfolding taken
@@ -47,7 +43,7 @@ returns-2 c =
     record {
       refusal = c .before .before .before .refuse .ensures ∙ ap refusalOf (sym (number-within (a .self .length) (length (a .bytes .now)) w));
       refused = λ g. absurd (omega arith);
-      runs = λ m h g. record { holds = c .more .ensures .1 m (h .holds); bounded = simp length-append (omega arith) };
+      runs = c .more .ensures;
     }
 
 pub absorb-spec : {M : Type 1} → statement M

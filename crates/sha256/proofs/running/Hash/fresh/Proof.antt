@@ -1,9 +1,14 @@
 -- A fresh hash has taken nothing.
 -- Assumes nothing.
-use mathlib.Core.Path.{refl}
+use mathlib.Core.Path.{sym, subst}
+use mathlib.Core.List.{[]}
 use native.Mathlib.Omega.{arith}
-use Rattle.seqs.specs.Blocks.{after}
-use Rattle.sha256.specs.Sha256.{hashed}
+use lib.ListN.{replicate}
+use Rattle.seqs.specs.Taken.{Holds}
+use Rattle.seqs.proofs.Taking.{holds-none}
+use Rattle.sha256.specs.Value.{Value}
+use Rattle.sha256.specs.Constants.{initial}
+use Rattle.sha256.specs.Compress.{step}
 use borrow.Author.Needs.{needs}
 use Rattle.sha256.proofs.running.Hash.fresh.Statement.{statement}
 use Rattle.sha256.proofs.running.Hash.fresh.Tie as tie
@@ -12,11 +17,11 @@ initial-requires : tie.Need-initial-requires
 initial-requires c κs = search needs
 
 returns : tie.Need-returns
-unfolding after hashed
-returns c = record {
-  holds = record { full = 0; rest = 0; size = refl; room = omega arith; taken = refl; state = c .initial .ensures; tail = refl };
-  bounded = omega arith;
-}
+returns c =
+    record {
+      holds = subst (λ (s : Value). Holds 64 step initial s (replicate 64 0) 0 []) (sym (c .initial .ensures)) (holds-none 64 (omega arith) step initial);
+      bounded = omega arith;
+    }
 
 pub fresh-spec : {M : Type 1} → statement M
 fresh-spec = tie.close (tie.spec initial-requires returns)

@@ -1,13 +1,17 @@
 -- What is taken goes behind what waits: no block is full, or the blocks lie in the new bytes, or the tail is filled up first.
 -- Assumes nothing.
-use mathlib.Core.Path.{_≡_, refl}
-use mathlib.Core.List.{[]}
-use Prim.Native.Nat.{suc, _+_, _-_, _*_, _/_, _%_, _≤_}
+use mathlib.Core.Path.{_≡_, sym, _∙_, ap}
+use mathlib.Core.List.{List, []}
+use Prim.Native.Nat.{ℕ, suc, _+_, _-_, _/_, _%_, _≤_}
+use native.Mathlib.Nat.{mod-eq-of-lt}
 use native.Mathlib.Omega.{arith}
-use lib.ListN.{length, take}
-use lib.Seq.{length-take-le}
-use Rattle.sha256.proofs.Hashing.{hashed-none}
-use Rattle.sha256.proofs.Taking.{holds-more, left-over, short-tail, first-block}
+use lib.ListN.{length, take, drop, replicate, length-append}
+use lib.Seq.{length-take-le, paste}
+use Rattle.seqs.proofs.Blocks.{after-none}
+use Rattle.seqs.proofs.Taking.{holds-more, none-waits, left-over, short-tail, first-block}
+use Rattle.sha256.specs.Constants.{initial}
+use Rattle.sha256.specs.Compress.{step}
+use Rattle.sha256.specs.Running.{Running, most}
 use borrow.Author.Needs.{needs}
 use Rattle.sha256.proofs.running.Hash.more.Statement.{statement}
 use Rattle.sha256.proofs.running.Hash.more.Tie as tie
@@ -16,8 +20,14 @@ use Rattle.sha256.proofs.running.Hash.more.Tie as tie
 tail-long : (c : tie.Start) → length (c .args .self .tail) ≡ 64
 tail-long c = search needs
 
-add-next : tie.Need-add-next
-add-next c = search needs
+-- the sum does not wrap where there is room
+counted : (c : tie.After-wrapping-add-u64) (m : List ℕ) → Running (c .before .before .before .args .self) m
+    → length m + length (c .before .before .before .args .bytes .now) ≤ most
+    → c .wrapping-add-u64 .result ≡ c .before .before .before .args .self .length + length (c .before .before .before .args .bytes .now)
+counted c m h w = c .wrapping-add-u64 .ensures ∙ mod-eq-of-lt (omega (arith, h .holds .counted))
+
+wrapping-add-u64-requires : tie.Need-wrapping-add-u64-requires
+wrapping-add-u64-requires c κs = search needs
 
 sub-if1 : tie.Need-sub-if1
 sub-if1 c = search needs
@@ -26,23 +36,27 @@ fill-requires : tie.Need-fill-requires
 fill-requires c κs = search needs
 
 returns : tie.Need-returns
-returns c =
-    let a = c .before .before .before .before .before .before .args in
-    let s = a .self in
-    let b = a .bytes .now in
+returns c m h w =
+    let z = c .before .before .before .before .before .before in
+    let s = z .args .self in
+    let b = z .args .bytes .now in
     let at = s .length % 64 in
-    let t = tail-long (c .before .before .before .before .before .before) in (
-      refl,
-      λ m h. holds-more s m b h at 0 (at + length b) (s .state) (c .fill .last .0)
-          (omega (arith, h .size, h .room, h .taken))
+    let e : at ≡ length m % 64 = ap (λ (i : ℕ). i % 64) (h .holds .counted) in
+    record {
+      holds =
+          holds-more 64 (omega arith) step initial m b (h .holds) at 0 (at + length b) e (counted (c .before .before .before) m h w)
           (omega arith)
           (omega (arith, c .before .before .if1 .taken))
-          (hashed-none _ _)
-          (rw (c .fill .ensures) (short-tail (s .tail) b at (omega arith))),
-    )
+          (after-none 64 step _ _)
+          (c .fill .ensures ∙ short-tail 64 (omega arith) m b at (h .holds .waits) e (omega (arith, c .before .before .if1 .taken)));
+      bounded = simp length-append (omega arith);
+    }
 
-add-left : tie.Need-add-left
-add-left c = search needs
+sub-left : tie.Need-sub-left
+sub-left c = search needs
+
+sub-left-2 : tie.Need-sub-left-2
+sub-left-2 c = search needs
 
 blocks-requires : tie.Need-blocks-requires
 blocks-requires c κs = search needs
@@ -54,22 +68,26 @@ fill-requires-2 : tie.Need-fill-requires-2
 fill-requires-2 c κs = search needs
 
 returns-2 : tie.Need-returns-2
-returns-2 c =
-    let a = c .before .before .before .before .before .before .before .before .before .args in
-    let s = a .self in
-    let b = a .bytes .now in
+returns-2 c m h w =
+    let z = c .before .before .before .before .before .before .before .before .before in
+    let s = z .args .self in
+    let b = z .args .bytes .now in
     let at = s .length % 64 in
-    let z : at ≡ 0 = c .before .before .before .if2 .taken in
+    let left = (length b - (64 - at)) % 64 in
+    let none : at ≡ 0 = c .before .before .before .if2 .taken in
+    let g : 64 - at ≤ length b = c .before .before .before .before .before .if1 .left in
     let j = (length b - 0) / 64 in
-    let e : (at + length b) % 64 ≡ length b - 64 * j = omega arith in (
-      refl,
-      λ m h. holds-more s m b h 0 j ((at + length b) % 64) (c .before .before .blocks2 .result) (c .fill2 .last .0)
-          (omega (arith, h .size, h .room, h .taken))
+    let e : at ≡ length m % 64 = ap (λ (i : ℕ). i % 64) (h .holds .counted) in
+    let t : s .tail ≡ replicate 64 0 = h .holds .waits ∙ none-waits 64 (omega arith) m (sym e ∙ none) in
+    record {
+      holds =
+          holds-more 64 (omega arith) step initial m b (h .holds) 0 j left (sym none ∙ e) (counted (c .before .before .before .before .before .before) m h w)
           (omega arith)
           (omega arith)
           (c .before .before .blocks2 .ensures)
-          (rw (c .fill2 .ensures) (left-over (s .tail) [] b j ((at + length b) % 64) (omega arith) (omega arith))),
-    )
+          (c .fill2 .ensures ∙ ap (λ (l : List ℕ). paste l 0 (drop (length b - left) b) left) t ∙ left-over 64 [] b j left (omega arith) (omega arith));
+      bounded = simp length-append (omega arith);
+    }
 
 sub-fill-2 : tie.Need-sub-fill-2
 sub-fill-2 c = search needs
@@ -93,33 +111,39 @@ fill-requires-4 : tie.Need-fill-requires-4
 fill-requires-4 c κs = search needs
 
 returns-3 : tie.Need-returns-3
-returns-3 c =
-    let a = c .before .before .before .before .before .before .before .before .before .before .before .before .before .before .before .args in
-    let s = a .self in
-    let b = a .bytes .now in
+returns-3 c m h w =
+    let z = c .before .before .before .before .before .before .before .before .before .before .before .before .before .before .before .before in
+    let s = z .args .self in
+    let b = z .args .bytes .now in
     let at = s .length % 64 in
-    let t = tail-long (c .before .before .before .before .before .before .before .before .before .before .before .before .before .before .before) in
+    let left = (length b - (64 - at)) % 64 in
+    let t = tail-long z in
     let j = (length b - (64 - at)) / 64 in
-    let g : 64 - at ≤ length b = c .before .before .before .before .before .before .before .before .before .before .before .if1 .left in
-    let p : length (take at (s .tail)) ≡ at = length-take-le at (s .tail) (omega arith) in (
-      refl,
-      λ m h. holds-more s m b h at (suc j) ((at + length b) % 64) (c .before .before .blocks3 .result) (c .fill4 .last .0)
-          (omega (arith, h .size, h .room, h .taken))
+    let g : 64 - at ≤ length b = c .before .before .before .before .before .before .before .before .before .before .before .before .if1 .left in
+    let p : length (take at (s .tail)) ≡ at = length-take-le at (s .tail) (omega arith) in
+    let e : at ≡ length m % 64 = ap (λ (i : ℕ). i % 64) (h .holds .counted) in
+    let f : c .fill4 .last .0 ≡ paste (replicate 64 0) 0 (drop (length b - left) b) left = c .fill4 .ensures in
+    record {
+      holds =
+          holds-more 64 (omega arith) step initial m b (h .holds) at (suc j) left e
+          (counted (c .before .before .before .before .before .before .before .before .before .before .before .before .before) m h w)
           (omega arith)
           (omega arith)
-          (first-block (s .state) (c .before .before .before .compress .result) (c .before .before .blocks3 .result) (s .tail) b at j t (omega arith) (omega arith) (rw (← c .before .before .before .before .before .before .before .fill3 .ensures) (c .before .before .before .compress .ensures)) (c .before .before .blocks3 .ensures))
-          (rw (c .fill4 .ensures) (left-over (c .before .before .before .before .before .before .before .fill3 .last .0) (take at (s .tail)) b (suc j) ((at + length b) % 64) (omega arith) (omega arith))),
-    )
+          (first-block 64 (omega arith) step initial _ _ _ (s .tail) b at j t (omega arith) (omega arith) (rw (← c .before .before .before .before .before .before .before .before .fill3 .ensures) (c .before .before .before .before .compress .ensures)) (c .before .before .before .blocks3 .ensures))
+          (f ∙ left-over 64 (take at (s .tail)) b (suc j) left (omega arith) (omega arith));
+      bounded = simp length-append (omega arith);
+    }
 
 pub more-spec : {M : Type 1} → statement M
 more-spec =
     tie.close
     (tie.spec
-    add-next
+    wrapping-add-u64-requires
     sub-if1
     fill-requires
     returns
-    add-left
+    sub-left
+    sub-left-2
     blocks-requires
     sub-fill
     fill-requires-2

@@ -1,0 +1,10 @@
+pub mod Flag
+pub mod Cut
+pub mod Tab
+pub mod Words
+pub mod Bytes
+pub mod Bitwise
+pub mod Blocks
+pub mod Zeros
+pub mod Taking
+pub mod Ending

@@ -1,0 +1,23 @@
+-- A hash by blocks that takes its message in pieces: what it carries from one piece to the next. The block's size, the step and the
+-- first hash value are parameters.
+-- Assumes nothing.
+use mathlib.Core.Path.{_≡_}
+use mathlib.Core.List.{List, _++_}
+use Prim.Native.Nat.{ℕ, _-_, _*_, _/_, _%_}
+use lib.ListN.{length, drop, replicate}
+use Rattle.seqs.specs.Blocks.{after}
+
+-- what is left of m behind its whole blocks
+abbrev pub leftOf : ℕ → List ℕ → List ℕ
+leftOf size m = drop (size * (length m / size)) m
+
+-- it waits at the front of a block that is zero behind it
+abbrev pub waiting : ℕ → List ℕ → List ℕ
+waiting size m = leftOf size m ++ replicate (size - length m % size) 0
+
+module _ {S : Type 0} (size : ℕ) (step : S → List ℕ → S) (initial : S) where
+  -- m is taken: the hash value, the tail and the count, each fixed by m
+  pub record Holds (value : S) (tail : List ℕ) (count : ℕ) (m : List ℕ) : Type 0 where
+    pub worked : value ≡ after size step initial (length m / size) m
+    pub waits : tail ≡ waiting size m
+    pub counted : count ≡ length m

@@ -1,0 +1,27 @@
+-- A running hash is one value for one message.
+-- Assumes nothing.
+use mathlib.Core.Path.{_≡_, ap}
+use mathlib.Core.List.{List}
+use Prim.Native.Nat.{ℕ}
+use native.Mathlib.Omega.{arith}
+use Rattle.seqs.proofs.Taking.{one-value}
+use Rattle.sha256.specs.Value.{Value}
+use Rattle.sha256.specs.Layout.{valueOf}
+use Rattle.sha256.specs.Constants.{initial}
+use Rattle.sha256.specs.Compress.{step}
+use Rattle.sha256.specs.Running.{OneValue}
+use Rattle.sha256.specs.declared.compress.State.{State}
+use Rattle.sha256.specs.declared.running.Hash.{Hash}
+
+-- the eight words are the struct
+struct : {s z : State} → valueOf s ≡ valueOf z → s ≡ z
+struct {s} {z} e = ap (λ (v : Value). record { a = v .a; b = v .b; c = v .c; d = v .d; e = v .e; f = v .f; g = v .g; h = v .h }) e
+
+same : {s z : State} {t u : List ℕ} {n k : ℕ} → s ≡ z → t ≡ u → n ≡ k
+    → _≡_ {A = Hash} (record { state = s; tail = t; length = n }) (record { state = z; tail = u; length = k })
+same p q r = cc
+
+pub alone : OneValue
+alone h g m p q =
+    let (s, t, n) = one-value 64 (omega arith) step initial (p .holds) (q .holds) in
+    same (struct s) t n
