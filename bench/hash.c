@@ -1,15 +1,14 @@
-/* SHA-256 side by side: this library, BearSSL, OpenSSL, mbedTLS, and an earlier build of this library where bench/run has one.
- * Prints one line a case: bytes, nanoseconds of each. */
+/* SHA-256 side by side: this library, BearSSL, OpenSSL, mbedTLS, and an earlier build of this library where bench/run has one;
+ * and how the cost grows with what is fed. */
 #include "axle_gateway.h"
 #include "clock.h"
+#include "openssl.h"
 
 #include <bearssl.h>
 #include <mbedtls/sha256.h>
 #include <openssl/evp.h>
-#include <openssl/sha.h>
-#include <string.h>
 
-static uint8_t input[16384];
+static uint8_t input[AXLE_HASH_MAX];
 static uint8_t digest[32];
 static size_t length;
 
@@ -17,6 +16,14 @@ static void ours(void)
 {
     AxleDigested d = axle_sha256(input, length);
     memcpy(digest, d.digest, 32);
+}
+
+static void ours_fed(void)
+{
+    AxleHash hash = axle_hash_fresh();
+    axle_hash_absorb_in(&hash, input, length);
+    AxleDigest d = axle_hash_digest(hash);
+    memcpy(digest, d.bytes, 32);
 }
 
 static void bearssl(void)
@@ -27,9 +34,23 @@ static void bearssl(void)
     br_sha256_out(&c, digest);
 }
 
-static void openssl(void) { SHA256(input, length, digest); }
+static EVP_MD *fetched;
+static EVP_MD_CTX *context;
+
+static void openssl(void)
+{
+    EVP_DigestInit_ex2(context, fetched, NULL);
+    EVP_DigestUpdate(context, input, length);
+    EVP_DigestFinal_ex(context, digest, NULL);
+}
 
 static void mbedtls(void) { mbedtls_sha256_ret(input, length, digest, 0); }
+
+static void accept(void) /* of a handshake message, into a log */
+{
+    AxleAccepted answer = axle_log_accept(axle_log_fresh(), input, length, 0);
+    digest[0] = answer.refusal.number;
+}
 
 #ifdef BEFORE
 AxleDigested before_axle_sha256(const uint8_t *message, size_t length);
@@ -41,26 +62,46 @@ static void before(void)
 }
 #endif
 
-static const contestant all[] = {
-    {"this library", ours},
-    {"BearSSL", bearssl},
-    {"OpenSSL", openssl},
-    {"mbedTLS", mbedtls},
-#ifdef BEFORE
-    {"before", before},
-#endif
-};
-
-int main(void)
+int main(int argc, char **argv)
 {
     static const size_t lengths[] = {64, 1024, 16384};
+    static const size_t fed[] = {1, 16, 64, 256, 1024, 4096, 16384, 65536, 262144, 1048576};
+    const char *name = openssl_name();
+    answer to = {digest, sizeof digest};
+    fetched = EVP_MD_fetch(NULL, "SHA256", NULL);
+    context = EVP_MD_CTX_new();
     for (size_t i = 0; i < sizeof input; i++)
         input[i] = (uint8_t)(i * 7 + 1);
-    for (size_t k = 0; k < 3; k++) {
-        char name[64];
+    const contestant all[] = {
+        {"this library", ours},
+        {name, openssl},
+        {"BearSSL", bearssl},
+        {"mbedTLS", mbedtls},
+#ifdef BEFORE
+        {"before", before},
+#endif
+    };
+    contestant feeding[] = {{"this library", ours_fed}, {name, openssl}, {"BearSSL", bearssl}, {"mbedTLS", mbedtls}};
+    int some = argc > 1 && strcmp(argv[1], "openssl") == 0; /* OpenSSL alone beside ours */
+    for (int k = 0; k < COUNT(lengths); k++) {
         length = lengths[k];
-        snprintf(name, sizeof name, "SHA-256 of %zu B", length);
-        side_by_side(name, all, sizeof all / sizeof *all);
+        contest("SHA-256", (long)length, all, some ? 2 : COUNT(all), to);
+    }
+    for (int k = 0; k < COUNT(fed); k++) {
+        length = fed[k];
+        contest("feeding a hash", (long)length, feeding, some ? 2 : COUNT(feeding), to);
+    }
+    for (int k = 0; k < COUNT(fed) && !some; k++) {
+        length = fed[k];
+        if (length < 4 || length > AXLE_MESSAGE_MAX)
+            continue;
+        memcpy(input, (uint8_t[]){1, 0, (uint8_t)((length - 4) >> 8), (uint8_t)(length - 4)}, 4);
+        accept();
+        if (digest[0] != AXLE_DONE) {
+            fprintf(stderr, "bench: a log does not accept a ClientHello of %zu bytes: %d\n", length, digest[0]);
+            return 1;
+        }
+        side_by_side("feeding a log", (long)length, (contestant[]){{"this library", accept}}, 1);
     }
     return 0;
 }

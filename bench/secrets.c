@@ -1,17 +1,18 @@
 /* HMAC-SHA-256 of 64 bytes and the extended master secret, side by side, with an earlier build where bench/run has one. */
 #include "axle_gateway.h"
 #include "clock.h"
+#include "openssl.h"
 
 #include <bearssl.h>
 #include <mbedtls/md.h>
 #include <mbedtls/ssl.h>
 #include <openssl/core_names.h>
 #include <openssl/evp.h>
-#include <openssl/hmac.h>
 #include <openssl/kdf.h>
-#include <string.h>
 
 static uint8_t key[48], input[64], seed[32], tag[32], secret[48];
+static const uint8_t label[] = "extended master secret";
+enum { LABEL = sizeof label - 1 };
 
 static void ours_hmac(void)
 {
@@ -29,7 +30,15 @@ static void bearssl_hmac(void)
     br_hmac_out(&c, tag);
 }
 
-static void openssl_hmac(void) { HMAC(EVP_sha256(), key, sizeof key, input, sizeof input, tag, NULL); }
+static EVP_MAC_CTX *mac; /* its digest is fetched once, its key is new each time */
+
+static void openssl_hmac(void)
+{
+    size_t written;
+    EVP_MAC_init(mac, key, sizeof key, NULL);
+    EVP_MAC_update(mac, input, sizeof input);
+    EVP_MAC_final(mac, tag, &written, sizeof tag);
+}
 
 static void mbedtls_hmac(void)
 {
@@ -41,31 +50,38 @@ static void ours_secret(void) { axle_extended_master_secret(key, sizeof key, see
 static void bearssl_secret(void)
 {
     br_tls_prf_seed_chunk chunk = {seed, sizeof seed};
-    br_tls12_sha256_prf(secret, sizeof secret, key, sizeof key, "extended master secret", 1, &chunk);
+    br_tls12_sha256_prf(secret, sizeof secret, key, sizeof key, (const char *)label, 1, &chunk);
 }
+
+static EVP_KDF_CTX *kdf; /* likewise; 3.0 adds a seed to that of the call before, so the seed too is set once */
 
 static void openssl_secret(void)
 {
-    static EVP_KDF *kdf;
-    uint8_t labelled[22 + sizeof seed];
-    if (kdf == NULL)
-        kdf = EVP_KDF_fetch(NULL, "TLS1-PRF", NULL);
-    EVP_KDF_CTX *c = EVP_KDF_CTX_new(kdf);
-    memcpy(labelled, "extended master secret", 22);
-    memcpy(labelled + 22, seed, sizeof seed);
     OSSL_PARAM parameters[] = {
-        OSSL_PARAM_construct_utf8_string(OSSL_KDF_PARAM_DIGEST, (char *)"SHA256", 0),
         OSSL_PARAM_construct_octet_string(OSSL_KDF_PARAM_SECRET, key, sizeof key),
-        OSSL_PARAM_construct_octet_string(OSSL_KDF_PARAM_SEED, labelled, sizeof labelled),
         OSSL_PARAM_construct_end(),
     };
-    EVP_KDF_derive(c, secret, sizeof secret, parameters);
-    EVP_KDF_CTX_free(c);
+    EVP_KDF_derive(kdf, secret, sizeof secret, parameters);
+}
+
+static void openssl_fetch(void)
+{
+    OSSL_PARAM once[] = {
+        OSSL_PARAM_construct_utf8_string(OSSL_ALG_PARAM_DIGEST, (char *)"SHA256", 0),
+        OSSL_PARAM_construct_end(),
+        OSSL_PARAM_construct_octet_string(OSSL_KDF_PARAM_SEED, seed, sizeof seed),
+        OSSL_PARAM_construct_end(),
+    };
+    mac = EVP_MAC_CTX_new(EVP_MAC_fetch(NULL, "HMAC", NULL));
+    EVP_MAC_CTX_set_params(mac, once);
+    once[1] = OSSL_PARAM_construct_octet_string(OSSL_KDF_PARAM_SEED, (void *)label, LABEL);
+    kdf = EVP_KDF_CTX_new(EVP_KDF_fetch(NULL, "TLS1-PRF", NULL));
+    EVP_KDF_CTX_set_params(kdf, once);
 }
 
 static void mbedtls_secret(void)
 {
-    mbedtls_ssl_tls_prf(MBEDTLS_SSL_TLS_PRF_SHA256, key, sizeof key, "extended master secret", seed, sizeof seed, secret, sizeof secret);
+    mbedtls_ssl_tls_prf(MBEDTLS_SSL_TLS_PRF_SHA256, key, sizeof key, (const char *)label, seed, sizeof seed, secret, sizeof secret);
 }
 
 #ifdef BEFORE
@@ -85,38 +101,33 @@ static void before_secret(void)
 }
 #endif
 
-static const contestant hmacs[] = {
-    {"this library", ours_hmac},
-    {"BearSSL", bearssl_hmac},
-    {"OpenSSL", openssl_hmac},
-    {"mbedTLS", mbedtls_hmac},
-#ifdef BEFORE
-    {"before", before_hmac},
-#endif
-};
-
-static const contestant secrets[] = {
-    {"this library", ours_secret},
-    {"BearSSL", bearssl_secret},
-    {"OpenSSL", openssl_secret},
-    {"mbedTLS", mbedtls_secret},
-#ifdef BEFORE
-    {"before", before_secret},
-#endif
-};
-
-int main(void)
+int main(int argc, char **argv)
 {
+    const char *name = openssl_name();
+    const contestant hmacs[] = {
+        {"this library", ours_hmac},
+        {name, openssl_hmac},
+        {"BearSSL", bearssl_hmac},
+        {"mbedTLS", mbedtls_hmac},
+#ifdef BEFORE
+        {"before", before_hmac},
+#endif
+    };
+    const contestant secrets[] = {
+        {"this library", ours_secret},
+        {name, openssl_secret},
+        {"BearSSL", bearssl_secret},
+        {"mbedTLS", mbedtls_secret},
+#ifdef BEFORE
+        {"before", before_secret},
+#endif
+    };
+    int some = argc > 1 && strcmp(argv[1], "openssl") == 0; /* OpenSSL alone beside ours */
     memset(key, 7, sizeof key);
     memset(input, 9, sizeof input);
     memset(seed, 11, sizeof seed);
-    uint8_t first[48];
-    ours_secret();
-    memcpy(first, secret, 48);
-    bearssl_secret();
-    if (memcmp(first, secret, 48) != 0)
-        return 1;
-    side_by_side("HMAC-SHA-256 of 64 B", hmacs, sizeof hmacs / sizeof *hmacs);
-    side_by_side("extended master secret", secrets, sizeof secrets / sizeof *secrets);
+    openssl_fetch();
+    contest("HMAC-SHA-256", sizeof input, hmacs, some ? 2 : COUNT(hmacs), (answer){tag, sizeof tag});
+    contest("extended master secret", NO_SIZE, secrets, some ? 2 : COUNT(secrets), (answer){secret, sizeof secret});
     return 0;
 }
