@@ -250,6 +250,7 @@ def test_any_struct_value_ends():
         value = r.choice((bytes(log.value), bytes(face.log_expected_finished(log, SECRET).value), r.randbytes(12)))
         m = r.choice((hellos.message(20, value), hellos.message(r.choice(TYPES), r.randbytes(r.choice((0, 12, 100))))))
         m = hellos.damaged(r, m) if r.random() < 0.2 else m
+        m = hellos.message(1, bytes(16_385)) if r.random() < 0.05 else m
         for answer in (face.log_accept(log, m, r.randrange(256)), face.log_check_finished(log, r.choice((SECRET, SECRET[1:])), m)):
             seen.setdefault(type(answer), set()).add(answer.refusal.number)
             if answer.refusal.number:
