@@ -2,18 +2,18 @@
 -- field and its byte order.
 -- Assumes nothing.
 use mathlib.Core.Path.{_≡_, refl, sym, _∙_, ap, ap₂}
-use mathlib.Core.List.{List, _∷_, _++_, append-assoc}
+use mathlib.Core.List.{List, [], _∷_, _++_, append-assoc}
 use Prim.Native.Nat.{ℕ, zero, suc, _+_, _-_, _*_, _/_, _%_, _≤_, _<_}
 use native.Mathlib.Nat.{mul-add, mul-suc, mul-zero, mul-one, add-zero, sub-zero, mul-mod-right, add-mod-mod, mod-lt, div-add-mod, mod-self, mod-eq-of-lt, mul-div-right}
 use native.Mathlib.Omega.{arith}
 use borrow.Author.Tests.{ltb-true, ltb-false}
 use lib.Dec.{ltb}
-use lib.ListN.{length, take, drop, set, replicate, length-append, length-replicate, replicate-append-replicate}
-use lib.Seq.{take-all, take-at, drop-at, set-at, drop-append-le}
+use lib.ListN.{length, take, drop, replicate, length-append, length-replicate, replicate-append-replicate}
+use lib.Seq.{take-all, take-at, drop-at, drop-append-le, length-take-le}
 use Rattle.seqs.specs.Blocks.{after}
 use Rattle.seqs.specs.Words.{ByteOrder, inBytes}
 use Rattle.seqs.specs.Padding.{pad, padding, zeros}
-use Rattle.seqs.specs.Taken.{leftOf, Holds}
+use Rattle.seqs.specs.Taken.{leftOf, sealed, Holds}
 use Rattle.seqs.specs.Cases.{by-test}
 use Rattle.seqs.proofs.Blocks.{after-append, after-from}
 use Rattle.seqs.proofs.Words.{length-inBytes}
@@ -42,6 +42,17 @@ whole size width order m h =
     let f : n + (size - n % size) ≡ size * suc q = omega (arith, mod-lt n h, div-add-mod n size, mul-suc size q) in
     ap (λ (i : ℕ). i % size) e ∙ add-mod-mod n (size - n % size) size ∙ ap (λ (i : ℕ). i % size) f ∙ mul-mod-right size (suc q)
 
+-- a block is sealed zero by zero
+pub sealed-more : (i : ℕ) (t : List ℕ) (at : ℕ) → at < i → sealed (i + 1) t at ≡ sealed i t at ++ (0 ∷ [])
+sealed-more i t at h =
+    let e : i + 1 - (at + 1) ≡ i - (at + 1) + 1 = omega arith in
+    ap (λ (k : ℕ). take at t ++ (128 ∷ replicate k 0)) e
+    ∙ ap (λ (l : List ℕ). take at t ++ (128 ∷ l)) (sym (replicate-append-replicate (i - (at + 1)) 1 0))
+    ∙ sym (append-assoc (take at t) (128 ∷ replicate (i - (at + 1)) 0) (0 ∷ []))
+
+pub length-sealed : (size : ℕ) (t : List ℕ) (at : ℕ) → at < size → size ≤ length t → length (sealed size t at) ≡ size
+length-sealed size t at h g = simp (length-append, length-replicate) (omega (arith, length-take-le at t (omega arith)))
+
 module _ {S : Type 0} (size : ℕ) (positive : 0 < size) (step : S → List ℕ → S) (initial : S) where
   -- what follows whole blocks depends on the hash value there and on the rest alone
   rest-only : (k j : ℕ) (m p : List ℕ) → size * k ≤ length m
@@ -61,12 +72,10 @@ module _ {S : Type 0} (size : ℕ) (positive : 0 < size) (step : S → List ℕ 
       ∙ ap₂ (λ (p q : List ℕ). step (step s p) q) (take-at a b size e) (ap (take size) (drop-at a b size e) ∙ take-all size b (omega arith))
 
   module _ {value : S} {t : List ℕ} {count : ℕ} (m : List ℕ) (h : Holds size step initial value t count m) (at : ℕ) (e : at ≡ length m % size) where
-    -- what waits, with a one bit behind it
-    sealed : set t at 128 ≡ leftOf size m ++ (128 ∷ replicate (size - (at + 1)) 0)
-    sealed =
-        let n : size - length m % size ≡ suc (size - (at + 1)) = omega (arith, room size positive m) in
-        ap (λ (l : List ℕ). set l at 128) (h .waits ∙ ap (λ (i : ℕ). leftOf size m ++ replicate i 0) n)
-        ∙ set-at (leftOf size m) 0 (replicate (size - (at + 1)) 0) 128 at (length-left size positive m ∙ sym e)
+    -- what waits is what is left of m
+    seals : sealed size t at ≡ leftOf size m ++ (128 ∷ replicate (size - (at + 1)) 0)
+    seals =
+        ap (λ (l : List ℕ). l ++ (128 ∷ replicate (size - (at + 1)) 0)) (ap (take at) (h .waits) ∙ take-at (leftOf size m) (replicate (size - length m % size) 0) at (length-left size positive m ∙ sym e))
 
     module _ (width : ℕ) (order : ByteOrder) (narrow : width < size) where
       l : List ℕ
@@ -92,7 +101,7 @@ module _ {S : Type 0} (size : ℕ) (positive : 0 < size) (step : S → List ℕ 
       -- the length goes into the same block
       pub finished-one : at + width < size
           → after size step initial (length (pad size width order m) / size) (pad size width order m)
-          ≡ step value (take (size - width) (set t at 128) ++ inBytes order width (8 * length m))
+          ≡ step value (take (size - width) (sealed size t at) ++ inBytes order width (8 * length m))
       unfolding l
       finished-one g =
           let z = size - (at + 1 + width) in
@@ -100,12 +109,12 @@ module _ {S : Type 0} (size : ℕ) (positive : 0 < size) (step : S → List ℕ 
           let front : List ℕ = leftOf size m ++ (128 ∷ replicate z 0) in
           let n : length front ≡ size - width = simp (length-append, length-replicate) (omega (arith, length-left size positive m)) in
           let w : size - (at + 1) ≡ z + width = omega arith in
-          let s : set t at 128 ≡ front ++ replicate width 0 =
-          sealed
+          let s : sealed size t at ≡ front ++ replicate width 0 =
+          seals
           ∙ ap (λ (i : ℕ). leftOf size m ++ (128 ∷ replicate i 0)) w
           ∙ ap (λ (q : List ℕ). leftOf size m ++ (128 ∷ q)) (sym (replicate-append-replicate z width 0))
           ∙ sym (append-assoc (leftOf size m) (128 ∷ replicate z 0) (replicate width 0)) in
-          let f : take (size - width) (set t at 128) ≡ front = ap (take (size - width)) s ∙ take-at front (replicate width 0) (size - width) n in
+          let f : take (size - width) (sealed size t at) ≡ front = ap (take (size - width)) s ∙ take-at front (replicate width 0) (size - width) n in
           let k : length (front ++ l) ≡ size = length-append front l ∙ ap₂ (λ (i j : ℕ). i + j) n (length-inBytes order width (8 * length m)) ∙ (omega arith) in
           ends z 1 (omega arith) one
           ∙ ap (after size step value 1) (sym (append-assoc (leftOf size m) (128 ∷ replicate z 0) l))
@@ -115,7 +124,7 @@ module _ {S : Type 0} (size : ℕ) (positive : 0 < size) (step : S → List ℕ 
       -- the length goes into a block of its own
       pub finished-two : size ≤ at + width
           → after size step initial (length (pad size width order m) / size) (pad size width order m)
-          ≡ step (step value (set t at 128)) (take (size - width) (replicate size 0) ++ inBytes order width (8 * length m))
+          ≡ step (step value (sealed size t at)) (take (size - width) (replicate size 0) ++ inBytes order width (8 * length m))
       unfolding l
       finished-two g =
           let z = size - (at + 1) + (size - width) in
@@ -131,7 +140,7 @@ module _ {S : Type 0} (size : ℕ) (positive : 0 < size) (step : S → List ℕ 
           ends z 2 (omega (arith, room size positive m)) two
           ∙ ap (after size step value 2) p
           ∙ two-blocks value first last n k
-          ∙ ap₂ (λ (x y : List ℕ). step (step value x) (y ++ l)) (sym sealed) (sym (take-zeros (size - width) size (omega arith)))
+          ∙ ap₂ (λ (x y : List ℕ). step (step value x) (y ++ l)) (sym seals) (sym (take-zeros (size - width) size (omega arith)))
 
   -- two messages that one hash holds end alike
   pub same-end : (width : ℕ) (order : ByteOrder) → width < size → {value : S} {t : List ℕ} {count : ℕ} {m n : List ℕ}
@@ -146,10 +155,10 @@ module _ {S : Type 0} (size : ℕ) (positive : 0 < size) (step : S → List ℕ 
       (λ w.
       let c : at + width < size = ltb-true (at + width) size w in
       finished-one m g at refl width order narrow c
-      ∙ ap (λ (i : ℕ). step value (take (size - width) (set t at 128) ++ inBytes order width (8 * i))) e
+      ∙ ap (λ (i : ℕ). step value (take (size - width) (sealed size t at) ++ inBytes order width (8 * i))) e
       ∙ sym (finished-one n h at f width order narrow c))
       (λ w.
       let c : size ≤ at + width = ltb-false (at + width) size w in
       finished-two m g at refl width order narrow c
-      ∙ ap (λ (i : ℕ). step (step value (set t at 128)) (take (size - width) (replicate size 0) ++ inBytes order width (8 * i))) e
+      ∙ ap (λ (i : ℕ). step (step value (sealed size t at)) (take (size - width) (replicate size 0) ++ inBytes order width (8 * i))) e
       ∙ sym (finished-two n h at f width order narrow c))

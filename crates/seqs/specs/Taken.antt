@@ -2,9 +2,9 @@
 -- first hash value are parameters.
 -- Assumes nothing.
 use mathlib.Core.Path.{_≡_}
-use mathlib.Core.List.{List, _++_}
-use Prim.Native.Nat.{ℕ, _-_, _*_, _/_, _%_}
-use lib.ListN.{length, drop, replicate}
+use mathlib.Core.List.{List, _∷_, _++_}
+use Prim.Native.Nat.{ℕ, _+_, _-_, _*_, _/_, _%_}
+use lib.ListN.{length, take, drop, replicate}
 use Rattle.seqs.specs.Blocks.{after}
 
 -- what is left of m behind its whole blocks
@@ -14,6 +14,10 @@ leftOf size m = drop (size * (length m / size)) m
 -- it waits at the front of a block that is zero behind it
 abbrev pub waiting : ℕ → List ℕ → List ℕ
 waiting size m = leftOf size m ++ replicate (size - length m % size) 0
+
+-- the first at bytes of such a block, a one bit behind them, and zeros to its end
+abbrev pub sealed : ℕ → List ℕ → ℕ → List ℕ
+sealed size block at = take at block ++ (128 ∷ replicate (size - (at + 1)) 0)
 
 module _ {S : Type 0} (size : ℕ) (step : S → List ℕ → S) (initial : S) where
   -- m is taken: the hash value, the tail and the count, each fixed by m

@@ -5,8 +5,8 @@ use mathlib.Core.List.{List, [], _∷_, _++_, append-assoc}
 use Prim.Native.Nat.{ℕ, _+_, _-_, _*_, _/_, _%_}
 use native.Mathlib.Omega.{arith}
 use lib.ListN.{length, take, drop, set, replicate, length-append}
-use lib.Seq.{take-all, drop-at, set-at, take-append-add, paste}
-use Rattle.seqs.specs.Taken.{Holds}
+use lib.Seq.{take-all, take-at, drop-at, set-at, take-append-add, paste}
+use Rattle.seqs.specs.Taken.{sealed, Holds}
 use Rattle.seqs.proofs.Blocks.{after-append}
 use Rattle.seqs.proofs.Taking.{none-waits}
 use Rattle.seqs.proofs.Ending.{one-block, finished-one}
@@ -69,8 +69,8 @@ module _ {s : State} {k : List ℕ} (b : Begins s k) where
         let n : length (k ++ d) ≡ 96 = simp length-append (omega (arith, b .whole)) in
         let at : 32 ≡ length (k ++ d) % 64 = ap (λ (i : ℕ). i % 64) (sym n) in
         let u : 56 ≡ length d + 24 = omega arith in
-        let v : take 56 (set (d ++ replicate 32 0) 32 128) ≡ d ++ (128 ∷ replicate 23 0) =
-        ap (take 56) (set-at d 0 (replicate 31 0) 128 32 e)
+        let v : take 56 (sealed 64 (d ++ replicate 32 0) 32) ≡ d ++ (128 ∷ replicate 23 0) =
+        ap (λ (l : List ℕ). take 56 (l ++ q)) (take-at d (replicate 32 0) 32 e)
         ∙ ap (λ (i : ℕ). take i (d ++ q)) u
         ∙ take-append-add d q 24 in
         ap output

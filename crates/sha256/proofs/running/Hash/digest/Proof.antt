@@ -5,11 +5,11 @@ use mathlib.Core.Logic.{⊎-elim}
 use mathlib.Core.List.{List, _++_}
 use Prim.Native.Nat.{ℕ, _+_, _*_, _/_, _%_}
 use native.Mathlib.Omega.{arith}
-use lib.ListN.{length, take, set, length-append, length-set}
+use lib.ListN.{length, take, length-append}
 use lib.Seq.{take-all, length-take-le}
 use Rattle.seqs.specs.Words.{big, inBytes}
 use Rattle.seqs.proofs.Words.{length-inBytes}
-use Rattle.seqs.proofs.Ending.{finished-one, finished-two}
+use Rattle.seqs.proofs.Ending.{length-sealed, finished-one, finished-two}
 use Rattle.sha256.specs.Value.{Value}
 use Rattle.sha256.specs.Layout.{valueOf}
 use Rattle.sha256.specs.Constants.{initial}
@@ -24,32 +24,31 @@ use Rattle.sha256.proofs.running.Hash.digest.Tie as tie
 tail-long : (c : tie.Start) → length (c .args .self .tail) ≡ 64
 tail-long c = search needs
 
--- what waits, with a one bit behind it
-abbrev sealed : tie.After-state → List ℕ
-sealed c = set (c .before .before .before .before .before .args .self .tail) (c .before .before .before .before .before .args .self .length % 64) 128
-
-sealed-long : (c : tie.After-state) → length (sealed c) ≡ 64
+-- the block that waits, sealed
+sealed-long : (c : tie.After-seal) → length (c .seal .last .0) ≡ 64
 sealed-long c =
-    let s = c .before .before .before .before .before .args .self in
-    length-set (s .tail) (s .length % 64) 128 ∙ tail-long (c .before .before .before .before .before)
+    let k = c .before .before .before .before .before .before .before in
+    let s = k .args .self in
+    ap length (c .seal .ensures) ∙ length-sealed 64 (s .tail) (s .length % 64) (omega arith) (omega (arith, tail-long k))
 
 -- where the two ways meet: the block that the length goes into
 joined-long : (c : tie.Joined2) → length (c .if2 .block) ≡ 64
 joined-long c = ⊎-elim (λ w. ap length (w .3)) (λ w. ap length (w .1) ∙ sealed-long (c .before)) (c .if2 .came)
 
 -- and with the length in it, it is the last block of the padded message
-joined-last : (c : tie.Joined2) (m : List ℕ) → Running (c .before .before .before .before .before .before .args .self) m
+joined-last : (c : tie.Joined2) (m : List ℕ) → Running (c .before .before .before .before .before .before .before .before .args .self) m
     → step (valueOf (c .if2 .state)) (take 56 (c .if2 .block) ++ inBytes big 8 (8 * length m)) ≡ hashed initial (length (padded m) / 64) (padded m)
 joined-last c m h =
-    let s = c .before .before .before .before .before .before .args .self in
+    let s = c .before .before .before .before .before .before .before .before .args .self in
     let l = inBytes big 8 (8 * length m) in
     let e : s .length % 64 ≡ length m % 64 = ap (λ (i : ℕ). i % 64) (h .holds .counted) in
+    let b = c .before .seal .ensures in
     ⊎-elim
     (λ w.
-    ap₂ (λ (x : Value) (q : List ℕ). step x (take 56 q ++ l)) (ap valueOf (w .4) ∙ w .2 .ensures ∙ ap (step (valueOf (s .state))) (take-all 64 (sealed (c .before)) (omega (arith, sealed-long (c .before))))) (w .3)
+    ap₂ (λ (x : Value) (q : List ℕ). step x (take 56 q ++ l)) (ap valueOf (w .4) ∙ w .2 .ensures ∙ ap (step (valueOf (s .state))) (take-all 64 (c .before .seal .last .0) (omega (arith, sealed-long (c .before))) ∙ b)) (w .3)
     ∙ sym (finished-two 64 (omega arith) step initial m (h .holds) (s .length % 64) e 8 big (omega arith) (omega (arith, w .0 .taken))))
     (λ w.
-    ap₂ (λ (x : Value) (q : List ℕ). step x (take 56 q ++ l)) (ap valueOf (w .2)) (w .1)
+    ap₂ (λ (x : Value) (q : List ℕ). step x (take 56 q ++ l)) (ap valueOf (w .2)) (w .1 ∙ b)
     ∙ sym (finished-one 64 (omega arith) step initial m (h .holds) (s .length % 64) e 8 big (omega arith) (omega (arith, w .0 .left))))
     (c .if2 .came)
 
@@ -62,8 +61,8 @@ last-long c =
 returns : tie.Need-returns
 returns c m h = absurd (omega (arith, h .holds .counted, h .bounded))
 
-array-write-block : tie.Need-array-write-block
-array-write-block c = omega arith
+seal-requires : tie.Need-seal-requires
+seal-requires c κs = search needs
 
 slice-aggregate-compress : tie.Need-slice-aggregate-compress
 slice-aggregate-compress c = sym (sealed-long (c .before .before))
@@ -89,7 +88,7 @@ output-requires c κs = search needs
 returns-2 : tie.Need-returns-2
 unfolding sha256
 returns-2 c m h =
-    let s = c .before .before .before .before .before .before .before .before .before .before .before .before .args .self in
+    let s = c .before .before .before .before .before .before .before .before .before .before .before .before .before .before .args .self in
     let j = c .before .before .before .before .before .before in
     let p = c .before .before .before in
     let n : s .length * 8 ≡ 8 * length m = omega (arith, h .holds .counted) in
@@ -104,7 +103,7 @@ digest-spec =
     tie.close
     (tie.spec
     returns
-    array-write-block
+    seal-requires
     slice-aggregate-compress
     compress-requires
     mul-put-length
