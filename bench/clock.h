@@ -1,8 +1,9 @@
-/* The same work by several libraries in one run: rounds are taken in turn, so that a slow moment of the machine meets all
- * of them alike, and it is the thread's processor time that counts.
+/* The same work by several libraries in one run: short rounds are taken in turn, so that a slow moment of the machine meets all
+ * of them alike, and it is the thread's processor time that counts. What else the machine does only adds to it: so the quarter
+ * of the rounds counts that took least in all, whoever of them was fast.
  *
  * A line for each, fields parted by tabs: the work, its size (or nothing), who, nanoseconds, and the time as a ratio to the
- * first one's; both are medians of the rounds. Whoever answers otherwise than the first one is not timed: the bench stops. */
+ * first one's; both are medians of these rounds. Whoever answers otherwise than the first one is not timed: the bench stops. */
 #ifndef CLOCK_H
 #define CLOCK_H
 
@@ -12,7 +13,7 @@
 #include <string.h>
 #include <time.h>
 
-enum { ROUNDS = 41, CONTESTANTS = 8, ROUND_NS = 2000000, ANSWER_MAX = 64, NO_SIZE = -1 };
+enum { ROUND_NS = 200000, ROUNDS = 400, LEAST_ROUNDS = 40, CONTESTANTS = 8, ANSWER_MAX = 64, NO_SIZE = -1 };
 
 typedef struct {
     const char *name;
@@ -38,12 +39,13 @@ static int by_value(const void *a, const void *b)
     return (x > y) - (x < y);
 }
 
-static double median(const double *values)
+/* The value that a part of the n values, 1/part of them, does not exceed. */
+static double among(const double *values, int n, int part)
 {
     double sorted[ROUNDS];
-    memcpy(sorted, values, sizeof sorted);
-    qsort(sorted, ROUNDS, sizeof *sorted, by_value);
-    return sorted[ROUNDS / 2];
+    memcpy(sorted, values, (size_t)n * sizeof *values);
+    qsort(sorted, (size_t)n, sizeof *sorted, by_value);
+    return sorted[n / part];
 }
 
 static double timed(void (*work)(void), long times)
@@ -73,20 +75,37 @@ static void agreed(const char *title, const contestant *all, int n, answer to)
 
 static void side_by_side(const char *title, long size, const contestant *all, int n)
 {
-    static double took[CONTESTANTS][ROUNDS], ratio[CONTESTANTS][ROUNDS];
+    static double took[CONTESTANTS][ROUNDS], whole[ROUNDS];
     long times[CONTESTANTS];
+    double round = 0;
     char sized[24] = "";
-    for (int c = 0; c < n; c++)
-        times[c] = 1 + (long)(ROUND_NS / (timed(all[c].work, 3) + 1));
-    for (int r = 0; r < ROUNDS; r++)
+    for (int c = 0; c < n; c++) {
+        double once = timed(all[c].work, 3);
+        times[c] = 1 + (long)(ROUND_NS / (once + 1));
+        round += once * (double)times[c];
+    }
+    int rounds = (int)(ROUNDS * (double)n * ROUND_NS / round); /* fewer where one work alone is longer than a round */
+    rounds = rounds < LEAST_ROUNDS ? LEAST_ROUNDS : rounds > ROUNDS ? ROUNDS : rounds;
+    for (int r = 0; r < rounds; r++) {
+        whole[r] = 0;
         for (int c = 0; c < n; c++) {
             took[c][r] = timed(all[c].work, times[c]);
-            ratio[c][r] = took[c][r] / took[0][r];
+            whole[r] += took[c][r] * (double)times[c];
         }
+    }
+    double quiet = among(whole, rounds, 4);
     if (size != NO_SIZE)
         snprintf(sized, sizeof sized, "%ld", size);
-    for (int c = 0; c < n; c++)
-        printf("%s\t%s\t%s\t%.1f\t%.4f\n", title, sized, all[c].name, median(took[c]), median(ratio[c]));
+    for (int c = 0; c < n; c++) {
+        double time[ROUNDS], ratio[ROUNDS];
+        int counted = 0;
+        for (int r = 0; r < rounds; r++)
+            if (whole[r] <= quiet) {
+                time[counted] = took[c][r];
+                ratio[counted++] = took[c][r] / took[0][r];
+            }
+        printf("%s\t%s\t%s\t%.1f\t%.4f\n", title, sized, all[c].name, among(time, counted, 2), among(ratio, counted, 2));
+    }
     fflush(stdout);
 }
 

@@ -3,8 +3,8 @@
 
     bench/figures.py [--write] target/bench/figures.tsv
 
-A figure is the median of the runs' medians, with the lowest and the highest of them. In docs/PERFORMANCE.md all that stands
-between `<!-- bench: NAME -->` and `<!-- bench: end -->` is written here, and nothing else."""
+A figure is the median of the runs, with the lowest and the highest of them. In docs/PERFORMANCE.md all that stands between
+`<!-- bench: NAME -->` and `<!-- bench: end -->` is written here, and nothing else."""
 
 import pathlib
 import re

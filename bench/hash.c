@@ -20,9 +20,8 @@ static void ours(void)
 
 static void ours_fed(void)
 {
-    AxleHash hash = axle_hash_fresh();
-    axle_hash_absorb_in(&hash, input, length);
-    AxleDigest d = axle_hash_digest(hash);
+    AxleAbsorbed answer = axle_hash_absorb(axle_hash_fresh(), input, length);
+    AxleDigest d = axle_hash_digest(answer.hash);
     memcpy(digest, d.bytes, 32);
 }
 
@@ -54,11 +53,21 @@ static void accept(void) /* of a handshake message, into a log */
 
 #ifdef BEFORE
 AxleDigested before_axle_sha256(const uint8_t *message, size_t length);
+AxleHash before_axle_hash_fresh(void);
+AxleAbsorbed before_axle_hash_absorb(AxleHash hash, const uint8_t *bytes, size_t length);
+AxleDigest before_axle_hash_digest(AxleHash hash);
 
 static void before(void)
 {
     AxleDigested d = before_axle_sha256(input, length);
     memcpy(digest, d.digest, 32);
+}
+
+static void before_fed(void)
+{
+    AxleAbsorbed answer = before_axle_hash_absorb(before_axle_hash_fresh(), input, length);
+    AxleDigest d = before_axle_hash_digest(answer.hash);
+    memcpy(digest, d.bytes, 32);
 }
 #endif
 
@@ -81,7 +90,15 @@ int main(int argc, char **argv)
         {"before", before},
 #endif
     };
-    contestant feeding[] = {{"this library", ours_fed}, {name, openssl}, {"BearSSL", bearssl}, {"mbedTLS", mbedtls}};
+    const contestant feeding[] = {
+        {"this library", ours_fed},
+        {name, openssl},
+        {"BearSSL", bearssl},
+        {"mbedTLS", mbedtls},
+#ifdef BEFORE
+        {"before", before_fed},
+#endif
+    };
     int some = argc > 1 && strcmp(argv[1], "openssl") == 0; /* OpenSSL alone beside ours */
     for (int k = 0; k < COUNT(lengths); k++) {
         length = lengths[k];
