@@ -39,8 +39,8 @@ static int by_value(const void *a, const void *b)
     return (x > y) - (x < y);
 }
 
-/* The value that a part of the n values, 1/part of them, does not exceed. */
-static double among(const double *values, int n, int part)
+/* The value that one in part of the n values does not exceed. */
+static double quantile(const double *values, int n, int part)
 {
     double sorted[ROUNDS];
     memcpy(sorted, values, (size_t)n * sizeof *values);
@@ -77,14 +77,14 @@ static void side_by_side(const char *title, long size, const contestant *all, in
 {
     static double took[CONTESTANTS][ROUNDS], whole[ROUNDS];
     long times[CONTESTANTS];
-    double round = 0;
+    double turn = 0; /* of all of them, in nanoseconds */
     char sized[24] = "";
     for (int c = 0; c < n; c++) {
-        double once = timed(all[c].work, 3);
-        times[c] = 1 + (long)(ROUND_NS / (once + 1));
-        round += once * (double)times[c];
+        double once = 1 + timed(all[c].work, 3);
+        times[c] = 1 + (long)(ROUND_NS / once);
+        turn += once * (double)times[c];
     }
-    int rounds = (int)(ROUNDS * (double)n * ROUND_NS / round); /* fewer where one work alone is longer than a round */
+    int rounds = (int)(ROUNDS * (double)n * ROUND_NS / turn); /* fewer where one work alone is longer than a round */
     rounds = rounds < LEAST_ROUNDS ? LEAST_ROUNDS : rounds > ROUNDS ? ROUNDS : rounds;
     for (int r = 0; r < rounds; r++) {
         whole[r] = 0;
@@ -93,18 +93,18 @@ static void side_by_side(const char *title, long size, const contestant *all, in
             whole[r] += took[c][r] * (double)times[c];
         }
     }
-    double quiet = among(whole, rounds, 4);
+    double quiet = quantile(whole, rounds, 4);
     if (size != NO_SIZE)
         snprintf(sized, sizeof sized, "%ld", size);
     for (int c = 0; c < n; c++) {
-        double time[ROUNDS], ratio[ROUNDS];
+        double spent[ROUNDS], ratio[ROUNDS];
         int counted = 0;
         for (int r = 0; r < rounds; r++)
             if (whole[r] <= quiet) {
-                time[counted] = took[c][r];
+                spent[counted] = took[c][r];
                 ratio[counted++] = took[c][r] / took[0][r];
             }
-        printf("%s\t%s\t%s\t%.1f\t%.4f\n", title, sized, all[c].name, among(time, counted, 2), among(ratio, counted, 2));
+        printf("%s\t%s\t%s\t%.1f\t%.4f\n", title, sized, all[c].name, quantile(spent, counted, 2), quantile(ratio, counted, 2));
     }
     fflush(stdout);
 }

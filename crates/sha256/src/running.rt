@@ -49,8 +49,8 @@ pub(crate) fn fill(tail: &mut [u8; 64], at: usize, b: &[u8], from: usize, n: usi
     }
 }
 
-// A one bit behind the first at bytes, and zeros to the end of the block, whatever stood there. In a running hash they are zeros, and
-// yet to write them is 1 % of a short hash faster than the one byte alone (docs/DECISIONS.md, "Speed").
+// A one bit behind the first at bytes, and zeros to the end of the block, whatever stood there. In a running hash zeros stand there
+// already; docs/DECISIONS.md, "Speed", says why they are written.
 fn seal(block: &mut [u8; 64], at: usize)
     requires { ⌜ (length (now block) ≡ 64) × (at < 64) ⌝ }
     ensures { λ _. ⌜ now (block .exit) ≡ sealed 64 (now (block .entry)) at ⌝ }
