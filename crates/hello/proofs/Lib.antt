@@ -10,3 +10,4 @@ pub mod Laid
 pub mod ListBytes
 pub mod Learnt
 pub mod Reread
+pub mod Handed

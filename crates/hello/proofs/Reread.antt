@@ -19,7 +19,7 @@ use Rattle.hello.proofs.Vectors.{field-yes}
 use Rattle.hello.proofs.Lists.{fuel, size-of}
 use Rattle.hello.proofs.Laid.{clean, parsed-same, serverFields, server-front, server-parts}
 
-two-back : (n : ℕ) → big (twoBytes n) ≡ n
+pub two-back : (n : ℕ) → big (twoBytes n) ≡ n
 unfolding big
 two-back n = omega arith
 

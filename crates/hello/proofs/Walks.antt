@@ -15,29 +15,19 @@ use Rattle.hello.specs.Extensions.{Extension, emsKind, riKind, shaped, k
 use Rattle.hello.specs.Places.{part, partOf}
 use Rattle.hello.proofs.Vectors.{byte-drop}
 
--- the first of n bytes, counted: where n is 0 there is none, and no count of it is 0
-same-count : (n b : ℕ) (l : List ℕ) → b ≡ byteAt l 0 → eqb n (1 + b) ≡ eqb n (1 + byteAt (take n l) 0)
-unfolding byteAt
-same-count zero b l e = ne-eqb 0 (1 + b) (λ z. omega arith) ∙ sym (ne-eqb 0 (1 + byteAt (take zero l) 0) (λ z. omega arith))
-same-count (suc k) b [] e = rw e
-same-count (suc k) b (x ∷ l) e = rw e
-
--- the shape of the n bytes at a place
-module _ (m : List ℕ) (t at n : ℕ) (h : at + n ≤ length m) where
-  size : length (take n (drop at m)) ≡ n
-  size = length-take-le n (drop at m) (rw length-drop (omega arith))
-
-  pub shape-ems : t ≡ emsKind → eqb n 0 ≡ shaped t (take n (drop at m))
+-- the shape of an extension's data
+module _ (t : ℕ) (d : List ℕ) where
+  pub shape-ems : t ≡ emsKind → eqb (length d) 0 ≡ shaped t d
   unfolding shaped
-  shape-ems e = rw (eq-eqb t emsKind e, size)
+  shape-ems e = rw (eq-eqb t emsKind e)
 
-  pub shape-ri : (b : ℕ) → b ≡ byteAt m at → (t ≡ emsKind → ⊥) → t ≡ riKind → eqb n (1 + b) ≡ shaped t (take n (drop at m))
+  pub shape-ri : (b : ℕ) → b ≡ byteAt d 0 → (t ≡ emsKind → ⊥) → t ≡ riKind → eqb (length d) (1 + b) ≡ shaped t d
   unfolding shaped
-  shape-ri b f d e = rw (ne-eqb t emsKind d, eq-eqb t riKind e, size) (same-count n b (drop at m) (f ∙ sym (byte-drop m at 0 ∙ ap (byteAt m) (add-zero at))))
+  shape-ri b f n e = rw (ne-eqb t emsKind n, eq-eqb t riKind e, f)
 
-  pub shape-other : (t ≡ emsKind → ⊥) → (t ≡ riKind → ⊥) → true ≡ shaped t (take n (drop at m))
+  pub shape-other : (t ≡ emsKind → ⊥) → (t ≡ riKind → ⊥) → true ≡ shaped t d
   unfolding shaped
-  shape-other d e = rw (ne-eqb t emsKind d, ne-eqb t riKind e)
+  shape-other n e = rw (ne-eqb t emsKind n, ne-eqb t riKind e)
 
 pub known-other : (t : ℕ) → (t ≡ emsKind → ⊥) → eqb t riKind ≡ knownKind t
 known-other t d = rw (ne-eqb t emsKind d)

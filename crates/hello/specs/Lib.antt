@@ -5,3 +5,4 @@ pub mod Places
 pub mod Cuts
 pub mod Written
 pub mod Learnt
+pub mod Next

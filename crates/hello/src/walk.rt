@@ -18,15 +18,14 @@ pub(crate) const EMS: usize = 23;
 pub(crate) const RI: usize = 65281;
 
 // The two known types have their own shape; the data of any other is not read.
-fn well_shaped(message: &[u8], kind: usize, at: usize, length: usize) -> bool
-    requires { ⌜ at + length ≤ lib.ListN.length (now message) ⌝ }
-    ensures { λ r. ⌜ r ≡ shaped kind (take length (drop at (now (message .entry)))) ⌝ }
+pub fn well_shaped(kind: usize, data: &[u8]) -> bool
+    ensures { λ r. ⌜ r ≡ shaped kind (now («data» .entry)) ⌝ }
 {
     if kind == EMS {
-        return length == 0;
+        return data.len() == 0;
     }
     if kind == RI {
-        return length == 1 + byte(message, at);
+        return data.len() == 1 + byte(data, 0);
     }
     true
 }
@@ -44,10 +43,11 @@ pub(crate) fn well_formed(message: &[u8], at: usize) -> bool
         if message.len() - i - 4 < n {
             return false;
         }
-        if !well_shaped(message, pair(message, i), i + 4, n) {
+        let end = i + 4 + n;
+        if !well_shaped(pair(message, i), &message[i + 4..end]) {
             return false;
         }
-        i = i + 4 + n;
+        i = end;
     }
     true
 }

@@ -1,9 +1,10 @@
 -- The walk that tests each extension.
 -- Assumes nothing.
 use mathlib.Core.Path.{_≡_, refl, sym, _∙_}
-use Prim.Native.Nat.{_-_, _≤_}
-use lib.ListN.{length}
+use Prim.Native.Nat.{_+_, _-_, _≤_}
+use lib.ListN.{length, take, drop}
 use borrow.Author.Tests.{not-true, not-false}
+use Rattle.hello.specs.Extensions.{shaped}
 use Rattle.hello.specs.Cuts.{wellFormedAt}
 use Rattle.hello.proofs.Lists.{whole-end, whole-short, whole-long, whole-bad, whole-next}
 use native.Mathlib.Omega.{arith}
@@ -45,37 +46,56 @@ returns-2 c =
     let l = c .before .before .before .before in
     sym (l .loop .inv .1 ∙ whole-long (l .before .before .args .message .now) (l .loop .i) _ (c .before .pair .result) refl (c .before .pair .ensures .0) (omega arith) (omega arith))
 
+add-end : tie.Need-add-end Inv-loop μ-loop
+add-end c = omega arith
+
+add-end-2 : tie.Need-add-end-2 Inv-loop μ-loop
+add-end-2 c = omega arith
+
 pair-requires-2 : tie.Need-pair-requires-2 Inv-loop μ-loop
 pair-requires-2 c κs = search needs
 
 add-well-shaped : tie.Need-add-well-shaped Inv-loop μ-loop
 add-well-shaped c = omega arith
 
+sub-well-shaped : tie.Need-sub-well-shaped Inv-loop μ-loop
+sub-well-shaped c = omega arith
+
+part-well-shaped-start : tie.Need-part-well-shaped-start Inv-loop μ-loop
+part-well-shaped-start c = omega arith
+
+part-well-shaped-end : tie.Need-part-well-shaped-end Inv-loop μ-loop
+part-well-shaped-end c = omega arith
+
 well-shaped-requires : tie.Need-well-shaped-requires Inv-loop μ-loop
 well-shaped-requires c κs = search needs
 
 returns-3 : tie.Need-returns-3 Inv-loop μ-loop
 returns-3 c =
-    let p = c .before .before in
+    let p = c .before .before .before in
     let q = p .before .before in
     let l = q .before .before .before in
-    sym (l .loop .inv .1 ∙ whole-bad (l .before .before .args .message .now) (l .loop .i) (p .pair2 .result) (q .pair .result) (p .pair2 .ensures .0) (q .pair .ensures .0) (omega arith) (omega arith) (sym (c .before .well-shaped .ensures) ∙ not-true _ (c .if3 .taken)))
-
-add-i : tie.Need-add-i Inv-loop μ-loop
-add-i c = omega arith
-
-add-i-2 : tie.Need-add-i-2 Inv-loop μ-loop
-add-i-2 c = omega arith
+    let m = l .before .before .args .message .now in
+    let i = l .loop .i in
+    let n = q .pair .result in
+    let k : i + 4 + n - (i + 4) ≡ n = omega arith in
+    let w : c .before .well-shaped .result ≡ shaped (p .pair2 .result) (take n (drop (i + 4) m)) = rw k at (c .before .well-shaped .ensures) in
+    sym (l .loop .inv .1 ∙ whole-bad m i (p .pair2 .result) n (p .pair2 .ensures .0) (q .pair .ensures .0) (omega arith) (omega arith) (sym w ∙ not-true _ (c .if3 .taken)))
 
 loop-less : tie.Need-loop-less Inv-loop μ-loop
 loop-less c = omega arith
 
 loop-again : tie.Need-loop-again Inv-loop μ-loop
 loop-again c =
-    let p = c .before .before in
+    let p = c .before .before .before in
     let q = p .before .before in
     let l = q .before .before .before in
-    (omega arith, l .loop .inv .1 ∙ whole-next (l .before .before .args .message .now) (l .loop .i) (p .pair2 .result) (q .pair .result) (p .pair2 .ensures .0) (q .pair .ensures .0) (omega arith) (omega arith) (sym (c .before .well-shaped .ensures) ∙ not-false _ (c .if3 .left)))
+    let m = l .before .before .args .message .now in
+    let i = l .loop .i in
+    let n = q .pair .result in
+    let k : i + 4 + n - (i + 4) ≡ n = omega arith in
+    let w : c .before .well-shaped .result ≡ shaped (p .pair2 .result) (take n (drop (i + 4) m)) = rw k at (c .before .well-shaped .ensures) in
+    (omega arith, l .loop .inv .1 ∙ whole-next m i (p .pair2 .result) n (p .pair2 .ensures .0) (q .pair .ensures .0) (omega arith) (omega arith) (sym w ∙ not-false _ (c .if3 .left)))
 
 returns-4 : tie.Need-returns-4 Inv-loop μ-loop
 returns-4 c =
@@ -96,12 +116,15 @@ well-formed-spec =
     sub-if2
     sub-if2-2
     returns-2
+    add-end
+    add-end-2
     pair-requires-2
     add-well-shaped
+    sub-well-shaped
+    part-well-shaped-start
+    part-well-shaped-end
     well-shaped-requires
     returns-3
-    add-i
-    add-i-2
     loop-less
     loop-again
     returns-4)

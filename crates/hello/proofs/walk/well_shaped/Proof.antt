@@ -8,8 +8,7 @@ use Rattle.hello.proofs.walk.well_shaped.Tie as tie
 
 returns : tie.Need-returns
 returns c =
-    let a = c .before .before .args in
-    shape-ems (a .message .now) (a .kind) (a .at) (a .length) (omega arith) (c .if1 .taken)
+    shape-ems _ _ (c .if1 .taken)
 
 byte-requires : tie.Need-byte-requires
 byte-requires c κs = search needs
@@ -19,13 +18,11 @@ add-result c = search needs
 
 returns-2 : tie.Need-returns-2
 returns-2 c =
-    let a = c .before .before .before .before .args in
-    shape-ri (a .message .now) (a .kind) (a .at) (a .length) (omega arith) (c .byte .result) (c .byte .ensures .0) (c .before .before .if1 .left) (c .before .if2 .taken)
+    shape-ri _ _ _ (c .byte .ensures .0) (c .before .before .if1 .left) (c .before .if2 .taken)
 
 returns-3 : tie.Need-returns-3
 returns-3 c =
-    let a = c .before .before .before .args in
-    shape-other (a .message .now) (a .kind) (a .at) (a .length) (omega arith) (c .before .if1 .left) (c .if2 .left)
+    shape-other _ _ (c .before .if1 .left) (c .if2 .left)
 
 pub well-shaped-spec : {M : Type 1} → statement M
 well-shaped-spec = tie.close (tie.spec returns byte-requires add-result returns-2 returns-3)
