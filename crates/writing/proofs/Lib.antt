@@ -1,0 +1,14 @@
+pub mod Placing
+pub mod Walking
+pub mod Listed
+pub mod Sizing
+pub mod Numbers
+pub mod Writers
+pub mod Hellos
+pub mod Lending
+pub mod Back
+pub mod Forth
+pub mod Again
+pub mod Lent
+pub mod RoundTrip
+pub mod Examples
