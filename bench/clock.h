@@ -13,7 +13,7 @@
 #include <string.h>
 #include <time.h>
 
-enum { ROUND_NS = 200000, ROUNDS = 400, LEAST_ROUNDS = 40, CONTESTANTS = 8, ANSWER_MAX = 64, NO_SIZE = -1 };
+enum { ROUND_NS = 200000, ROUNDS = 400, LEAST_ROUNDS = 40, CONTESTANTS = 8, ANSWER_MAX = 16388, NO_SIZE = -1 };
 
 typedef struct {
     const char *name;

@@ -24,6 +24,7 @@ OPENSSL, MASKED = "OpenSSL, SHA instructions", "OpenSSL, no SHA instructions"
 LENGTHS = {"64": "64 B", "1024": "1 KiB", "16384": "16 KiB"}
 LIBRARIES = [OURS, BEARSSL, OPENSSL, MASKED, MBEDTLS, BEFORE]
 READERS = [OURS, "tls-parser", "rustls", BEFORE]
+WRITERS = [*READERS[:-1], "by hand", BEFORE]
 UNITS = [(1e6, "ms"), (1e3, "µs"), (1, "ns")]
 
 
@@ -124,7 +125,12 @@ def work(figures):
 
 
 def hello(figures):
-    return contest(figures, "work", [("reading a ClientHello of 300 B with 10 extensions", "reading a ClientHello", "300")], READERS)
+    rows = [
+        ("reading a ClientHello of 300 B with 10 extensions", "reading a ClientHello", "300"),
+        ("writing that ClientHello", "writing a ClientHello", "300"),
+        ("writing one of 16,388 B with 4,085 extensions", "writing a ClientHello", "16388"),
+    ]
+    return contest(figures, "work", rows, WRITERS)
 
 
 def sessions(figures):

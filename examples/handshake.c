@@ -6,7 +6,7 @@
 #include <stdlib.h>
 #include <string.h>
 
-enum { AXLE = 3, CLIENT_HELLO = 1, SERVER_HELLO = 2, CERTIFICATE = 11, HELLO_DONE = 14, KEY_EXCHANGE = 16, FINISHED = 20 };
+enum { AXLE = 3, VERSION = 0x0303, SUITE = 0x003b, CERTIFICATE = 11, HELLO_DONE = 14, KEY_EXCHANGE = 16, FINISHED = 20 };
 
 static const uint8_t pre_master[48] = {3, 3, 42};
 static const AxleSwitches strict = {1, 0, 0};
@@ -30,26 +30,50 @@ static size_t message(uint8_t *out, uint8_t type, const uint8_t *body, size_t le
     return 4 + length;
 }
 
-/* Our client's hello: RI and EMS, for a first handshake, and an identifier if it has a session. */
-static size_t client_hello(uint8_t *out, const uint8_t *identifier, uint8_t length)
+/* A list of extensions as the writers take it: types, the length of each one's data, all data one after the other. */
+typedef struct {
+    uint16_t types[2], lengths[2];
+    uint8_t data[AXLE_REPLY_MAX];
+    size_t count, used;
+} List;
+
+/* The extensions of the server's reply, which is a 2-byte length and at most two extensions, or nothing at all. */
+static List listed(const uint8_t *reply, size_t length)
 {
-    static const uint8_t rest[] = {0, 2, 0, 0x3b, 1, 0, 0, 9, 0xff, 1, 0, 1, 0, 0, 0x17, 0, 0};
-    uint8_t body[128] = {3, 3, 'c', 'l', 'i', 'e', 'n', 't'};
-    body[34] = length;
-    memcpy(body + 35, identifier, length);
-    memcpy(body + 35 + length, rest, sizeof rest);
-    return message(out, CLIENT_HELLO, body, 35 + length + sizeof rest);
+    List list = {.count = 0, .used = 0};
+    AxleExtension e = axle_next_extension(reply, length, 2);
+    for (; e.found && list.count < 2; e = axle_next_extension(reply, length, e.next)) {
+        list.types[list.count] = e.type;
+        list.lengths[list.count++] = (uint16_t)e.data.length;
+        memcpy(list.data + list.used, reply + e.data.at, e.data.length);
+        list.used += e.data.length;
+    }
+    return list;
 }
 
-static size_t server_hello(uint8_t *out, const uint8_t *identifier, uint8_t length, const uint8_t *reply, size_t reply_length)
+/* Our client's hello: RI and EMS, for a first handshake, and an identifier if it has a session. */
+static size_t client_hello(uint8_t *out, size_t room, const uint8_t *identifier, size_t length)
 {
-    static const uint8_t chosen[] = {0, 0x3b, 0};
-    uint8_t body[128] = {3, 3, 's', 'e', 'r', 'v', 'e', 'r'};
-    body[34] = length;
-    memcpy(body + 35, identifier, length);
-    memcpy(body + 35 + length, chosen, sizeof chosen);
-    memcpy(body + 35 + length + sizeof chosen, reply, reply_length);
-    return message(out, SERVER_HELLO, body, 35 + length + sizeof chosen + reply_length);
+    static const uint8_t random[AXLE_RANDOM_SIZE] = {'c', 'l', 'i', 'e', 'n', 't'};
+    static const uint8_t suites[] = {SUITE >> 8, SUITE & 255}, methods[] = {0};
+    static const List list = {{AXLE_TYPE_RENEGOTIATION_INFO, AXLE_TYPE_EXTENDED_MASTER_SECRET}, {1, 0}, {0}, 2, 1};
+    AxleWritten written = axle_write_client_hello(VERSION, random, sizeof random, identifier, length, suites, sizeof suites, methods,
+                                                  sizeof methods, 1, list.types, list.count, list.lengths, list.count, list.data,
+                                                  list.used, out, room);
+    done(written.refusal, "our ClientHello");
+    return written.length;
+}
+
+/* Our server's hello, with the reply that was decided. */
+static size_t server_hello(uint8_t *out, size_t room, const uint8_t *identifier, size_t length, const uint8_t *reply,
+                           size_t reply_length)
+{
+    static const uint8_t random[AXLE_RANDOM_SIZE] = {'s', 'e', 'r', 'v', 'e', 'r'};
+    List list = listed(reply, reply_length);
+    AxleWritten written = axle_write_server_hello(VERSION, random, sizeof random, identifier, length, SUITE, 0, reply_length > 0,
+                                                  list.types, list.count, list.lengths, list.count, list.data, list.used, out, room);
+    done(written.refusal, "our ServerHello");
+    return written.length;
 }
 
 static void accept(AxleLog *log, const uint8_t *bytes, size_t length, uint8_t resumes)
@@ -71,18 +95,18 @@ static void finish(AxleLog *log, const uint8_t *secret)
 }
 
 /* Both hellos: the server decides and replies, the client decides on the reply; both must see the same. */
-static AxleDecision hellos(AxleLog *log, AxleTable table, const uint8_t *offered, uint8_t length)
+static AxleDecision hellos(AxleLog *log, AxleTable table, const uint8_t *offered, size_t length)
 {
     const AxleConnection fresh = axle_connection_fresh();
     static const uint8_t renewed[4] = {'n', 'e', 'x', 't'};
     uint8_t hello[192], answer[192], reply[AXLE_REPLY_MAX];
-    size_t n = client_hello(hello, offered, length);
+    size_t n = client_hello(hello, sizeof hello, offered, length);
     AxleDecision server = axle_decide_server(hello, n, AXLE, table, fresh, strict, reply, sizeof reply);
     done(server.refusal, "the server's decision");
     *log = axle_log_fresh();
     accept(log, hello, n, 0);
-    n = server.resumes ? server_hello(answer, offered, length, reply, server.reply_length)
-                       : server_hello(answer, renewed, sizeof renewed, reply, server.reply_length);
+    n = server.resumes ? server_hello(answer, sizeof answer, offered, length, reply, server.reply_length)
+                       : server_hello(answer, sizeof answer, renewed, sizeof renewed, reply, server.reply_length);
     AxleDecision client = axle_decide_client(answer, n, offered, length, length > 0, offered, length, 1, fresh, strict);
     done(client.refusal, "the client's decision");
     if (client.resumes != server.resumes || client.ems != server.ems || client.indication != server.indication)

@@ -6,9 +6,10 @@
  * in _in do the same on a state where it stands; they and axle_wipe are plain C in this file, around the proved calls.
  *
  * Pointers. A pair (pointer, length) is lent for the time of the call: `const` ones are only read. A length of 0 may come
- * with any pointer, NULL too; with another length the pointer must be good for that many bytes. Two lent parts of one call
- * must not overlap where one of them is written. The record of axle_complete and the state of an _in function must not be
- * NULL. None of this can be seen from inside: a call that breaks it is undefined, like a bad memcpy.
+ * with any pointer, NULL too; with another length the pointer must be good for that many bytes, or for that many numbers where
+ * it points to uint16_t. Two lent parts of one call must not overlap where one of them is written. The record of axle_complete
+ * and the state of an _in function must not be NULL. None of this can be seen from inside: a call that breaks it is undefined,
+ * like a bad memcpy.
  *
  * Flags are bytes: 0 is no, anything else is yes; a flag in an answer is 0 or 1.
  *
@@ -46,10 +47,10 @@ extern "C" {
 /* The first number is 0 for as long as a struct or a call may change from one minor version to the next; a patch changes
  * neither. So the shared library's soname has the first two. tools/build reads the numbers here. */
 #define AXLE_GATEWAY_VERSION_MAJOR 0
-#define AXLE_GATEWAY_VERSION_MINOR 2
+#define AXLE_GATEWAY_VERSION_MINOR 3
 #define AXLE_GATEWAY_VERSION_PATCH 0
-#define AXLE_GATEWAY_VERSION "0.2.0"
-/* for #if: 200 is 0.2.0, 10203 is 1.2.3 */
+#define AXLE_GATEWAY_VERSION "0.3.0"
+/* for #if: 300 is 0.3.0, 10203 is 1.2.3 */
 #define AXLE_GATEWAY_VERSION_NUMBER \
     (AXLE_GATEWAY_VERSION_MAJOR * 10000 + AXLE_GATEWAY_VERSION_MINOR * 100 + AXLE_GATEWAY_VERSION_PATCH)
 
@@ -230,6 +231,72 @@ typedef struct {
 AxleClientReading axle_read_client_hello(const uint8_t *message, size_t length);
 AxleServerReading axle_read_server_hello(const uint8_t *message, size_t length);
 
+/* One extension of a message. */
+typedef struct {
+    uint8_t found;  /* a whole one stands at the place asked; else all is 0 */
+    uint16_t type;
+    AxlePart data;  /* what stands behind its type and length */
+    size_t next;    /* the place behind it */
+} AxleExtension;
+
+/* The extension at place `at` of the message, if its type, length and data all lie within the message. Any bytes and any place
+ * may be asked. Of a hello that was read it hands out the very list, one after the other, and then none:
+ *
+ *     AxleExtension e = axle_next_extension(message, length, hello.extensions.list.at);
+ *     for (; e.found; e = axle_next_extension(message, length, e.next))
+ *         use(e.type, message + e.data.at, e.data.length);
+ */
+AxleExtension axle_next_extension(const uint8_t *message, size_t length, size_t at);
+
+/* ---- Writing a hello -------------------------------------------------------------------------------------------- */
+
+/* The types of the two extensions whose shape is judged. */
+enum {
+    AXLE_TYPE_EXTENDED_MASTER_SECRET = 23,
+    AXLE_TYPE_RENEGOTIATION_INFO = 65281
+};
+
+typedef struct {
+    AxleRefusal refusal; /* 0, 1, 2, 3 or 10 */
+    size_t length;       /* how many bytes the message has; refused: 0 */
+} AxleWritten;
+
+/* Writes one whole handshake message, header included, to the front of `out`; what stands behind it stays. The message's type and
+ * all lengths in it are the writer's work. It adds nothing else: renegotiation_info, extended_master_secret and the signal are
+ * there if the caller gives them. What it wrote reads back as the fields given, and the fields of a hello that was read are
+ * written as that very message.
+ *
+ * Extensions are three lent lists, in the order in which they are to stand: the types, the length of each one's data, and all
+ * data one after the other. `types_length` and `lengths_length` count numbers, not bytes. Data is as it stands in the message:
+ * that of renegotiation_info begins with its own length byte (an empty one has the data 00), extended_master_secret has none.
+ * `block` tells whether there is an extension block: without types, 0 is a hello without one, and 1 an empty one (00 00). So our
+ * client's list for a first handshake, with block 1, is
+ *
+ *     const uint16_t types[] = {AXLE_TYPE_RENEGOTIATION_INFO, AXLE_TYPE_EXTENDED_MASTER_SECRET}, lengths[] = {1, 0};
+ *     const uint8_t data[] = {0};
+ *
+ * Refused, with nothing written, by the first of these that applies:
+ *   10  random not of 32 bytes; identifier over 32; in a ClientHello suites of an odd number of bytes, under 2 or over 65,534,
+ *       methods not of 1 to 255; another number of lengths than of types, or lengths that do not add up to exactly
+ *       `data_length`; types without a block; a message over AXLE_MESSAGE_MAX bytes
+ *    1  data of renegotiation_info that is not a length byte and exactly that many bytes; data of extended_master_secret
+ *    2  a type twice, known or not
+ *    3  a ClientHello's version below 0x0303, a ServerHello's other than 0x0303
+ *   10  `out` shorter than this very message: one of AXLE_MESSAGE_MAX bytes never is
+ *
+ * `out` must not overlap with anything lent. Every pair of types is compared, as in reading. */
+AxleWritten axle_write_client_hello(uint16_t version, const uint8_t *random, size_t random_length, const uint8_t *identifier,
+                                    size_t identifier_length, const uint8_t *suites, size_t suites_length,
+                                    const uint8_t *methods, size_t methods_length, uint8_t block, const uint16_t *types,
+                                    size_t types_length, const uint16_t *lengths, size_t lengths_length, const uint8_t *data,
+                                    size_t data_length, uint8_t *out, size_t out_length);
+
+/* The same for a ServerHello, with one suite and one method. */
+AxleWritten axle_write_server_hello(uint16_t version, const uint8_t *random, size_t random_length, const uint8_t *identifier,
+                                    size_t identifier_length, uint16_t suite, uint8_t compression, uint8_t block,
+                                    const uint16_t *types, size_t types_length, const uint16_t *lengths, size_t lengths_length,
+                                    const uint8_t *data, size_t data_length, uint8_t *out, size_t out_length);
+
 /* ---- The session table ------------------------------------------------------------------------------------------ */
 
 typedef struct {
@@ -356,8 +423,9 @@ typedef struct {
 } AxleDecision;
 
 /* The server's decision on a ClientHello of this axle. The reply, which is the extension block of our ServerHello (with its
- * 2-byte length, or nothing at all), goes to the front of `out`; what stands behind it stays. 11 for the axle; 10, 1, 2, 3
- * for the hello; 9 or 5 for renegotiation; 6 for the master secret rule; last 10 where `out` is shorter than this reply.
+ * 2-byte length, or nothing at all), goes to the front of `out`; what stands behind it stays. axle_next_extension on the reply,
+ * from place 2 on, hands out the list for axle_write_server_hello. 11 for the axle; 10, 1, 2, 3 for the hello; 9 or 5 for
+ * renegotiation; 6 for the master secret rule; last 10 where `out` is shorter than this reply.
  *
  * It reads the hello, so it costs what reading costs: 22 to 26 ms for 16,388 bytes with 4,085 extensions, and some 40 of them
  * a second fill a core. Bound the length that an axle may send before it is known. */
@@ -464,6 +532,9 @@ enum {
     AXLE_STACK_MASTER_SECRET = 1712,
     AXLE_STACK_READ_CLIENT_HELLO = 800,
     AXLE_STACK_READ_SERVER_HELLO = 688,
+    AXLE_STACK_NEXT_EXTENSION = 8,
+    AXLE_STACK_WRITE_CLIENT_HELLO = 168,
+    AXLE_STACK_WRITE_SERVER_HELLO = 160,
     AXLE_STACK_TABLE_FRESH = 8,
     AXLE_STACK_TABLE_STORE = 10824,
     AXLE_STACK_TABLE_LOOK_UP = 8104,

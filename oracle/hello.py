@@ -1,4 +1,4 @@
-"""Document 01, 'Reading a hello'."""
+"""Document 01, 'Reading a hello', and order 1 of document 02, 'Write whole hellos'."""
 
 from dataclasses import dataclass, field
 
@@ -69,6 +69,10 @@ def frame(message):
     return message[0], message[4:]
 
 
+def misshapen(kind, data):
+    return bool(data) if kind == EMS else kind == RI and (not data or data[0] != len(data) - 1)
+
+
 def _extensions(reader):
     if not reader.data:
         return False, []
@@ -78,9 +82,7 @@ def _extensions(reader):
     while reader.data:
         kind = reader.number(2)
         data = reader.take(reader.number(2))
-        if kind == EMS and data:
-            raise Malformed
-        if kind == RI and (not data or data[0] != len(data) - 1):
+        if misshapen(kind, data):
             raise Malformed
         found.append((kind, data))
     return True, found
@@ -122,3 +124,56 @@ def read_client_hello(message):
 
 def read_server_hello(message):
     return _read(message, 2, lambda r: (r.take(2), r.take(1)), lambda v: v != 0x0303)
+
+
+def next_extension(message, at):
+    """(type, place of its data, length of its data, place behind it), or None where no whole extension stands there."""
+    reader = Reader(message[at:])
+    try:
+        kind, data = reader.number(2), reader.vector(2, 0, 65_535)
+    except Malformed:
+        return None
+    return kind, at + 4, len(data), at + 4 + len(data)
+
+
+def _vector(width, data):
+    return len(data).to_bytes(width, "big") + data
+
+
+def _write(kind, version, wrong_version, random, identifier, bounded, rest, block, types, lengths, data, room):
+    """rest: the bytes between identifier and extensions, made once all of them are `bounded`."""
+    bounded = bounded and len(random) == 32 and len(identifier) <= 32
+    if not bounded or len(types) != len(lengths) or sum(lengths) != len(data) or (types and not block):
+        return 10, b""
+    reader = Reader(data)
+    extensions = [(t, reader.take(n)) for t, n in zip(types, lengths)]
+    body = version.to_bytes(2, "big") + random + _vector(1, identifier) + rest()
+    if 4 + len(body) + bool(block) * (2 + 4 * len(types) + len(data)) > MESSAGE_LIMIT:
+        return 10, b""
+    if block:
+        body += _vector(2, b"".join(t.to_bytes(2, "big") + _vector(2, d) for t, d in extensions))
+    if any(misshapen(t, d) for t, d in extensions):
+        return 1, b""
+    if len(set(types)) != len(types):
+        return 2, b""
+    if wrong_version:
+        return 3, b""
+    message = bytes([kind]) + _vector(3, body)
+    return (10, b"") if room < len(message) else (0, message)
+
+
+def write_client_hello(version, random, identifier, suites, methods, block, types, lengths, data, room):
+    """(number, message): nothing where refused. room: how many bytes the output has."""
+    bounded = 2 <= len(suites) <= 65_534 and len(suites) % 2 == 0 and 1 <= len(methods) <= 255
+
+    def rest():
+        return _vector(2, suites) + _vector(1, methods)
+
+    return _write(1, version, version < 0x0303, random, identifier, bounded, rest, block, types, lengths, data, room)
+
+
+def write_server_hello(version, random, identifier, suite, compression, block, types, lengths, data, room):
+    def rest():
+        return suite.to_bytes(2, "big") + bytes([compression])
+
+    return _write(2, version, version != 0x0303, random, identifier, True, rest, block, types, lengths, data, room)

@@ -9,12 +9,18 @@ LIB = c.CDLL(str(pathlib.Path(__file__).resolve().parent.parent / "target/c/liba
 
 u8, u16, u32, u64, size = c.c_uint8, c.c_uint16, c.c_uint32, c.c_uint64, c.c_size_t
 BYTES = (c.c_char_p, size)  # a lent slice to read: pointer and length
+NUMBERS = (c.POINTER(u16), size)  # a lent slice of 16-bit numbers to read: any sequence of them, or an array made by numbers()
 LENT = (c.c_void_p, size)  # a lent slice to write to, made by lend()
 
 
 def lend(data):
     """A buffer of our own with these bytes in it."""
     return (u8 * len(data)).from_buffer_copy(data) if data else (u8 * 0)()
+
+
+def numbers(values):
+    """An array of our own with these 16-bit numbers in it."""
+    return values if isinstance(values, c.Array) else (u16 * len(values))(*values)
 
 
 def plain(value):
@@ -42,7 +48,7 @@ CALLS = {}  # every call that is declared here: its function and the kinds of it
 
 
 def declare(name, answer, *arguments):
-    """A function of the library; a lent slice takes two places, and a call passes the bytes or the buffer alone."""
+    """A function of the library; a lent slice takes two places, and a call passes the bytes, the numbers or the buffer alone."""
     f = getattr(LIB, name)
     f.restype = answer
     f.argtypes = [t for a in arguments for t in (a if isinstance(a, tuple) else (a,))]
@@ -52,6 +58,7 @@ def declare(name, answer, *arguments):
     def call(*given):
         passed = []
         for a, g in zip(arguments, given, strict=True):
+            g = numbers(g) if a is NUMBERS else g
             passed += [g, len(g)] if isinstance(a, tuple) else [g]
         return f(*passed)
 
@@ -132,8 +139,25 @@ class ServerReading(c.Structure):
     _fields_ = [("refusal", Refusal), ("hello", ServerHello)]
 
 
+class Extension(c.Structure):
+    _fields_ = [("found", u8), ("type", u16), ("data", Part), ("next", size)]
+
+
 read_client_hello = declare("axle_read_client_hello", ClientReading, BYTES)
 read_server_hello = declare("axle_read_server_hello", ServerReading, BYTES)
+next_extension = declare("axle_next_extension", Extension, BYTES, size)
+
+
+# Writing a hello
+
+
+class Written(c.Structure):
+    _fields_ = [("refusal", Refusal), ("length", size)]
+
+
+LIST = (u8, NUMBERS, NUMBERS, BYTES)  # an extension block: is there one, types, lengths, data
+write_client_hello = declare("axle_write_client_hello", Written, u16, BYTES, BYTES, BYTES, BYTES, *LIST, LENT)
+write_server_hello = declare("axle_write_server_hello", Written, u16, BYTES, BYTES, u16, u8, *LIST, LENT)
 
 
 # The session table

@@ -1,5 +1,6 @@
-/* What include/axle_gateway.h says beside the calls: versions, sizes, parts of what is absent, NULL with length 0, and the functions
- * that keep a state in place. It is C99 and C++ at once; each case that is not so is a line, and the last line counts them all. */
+/* What include/axle_gateway.h says beside the calls: versions, sizes, parts of what is absent, NULL with length 0, the lists of a
+ * writer, and the functions that keep a state in place. It is C99 and C++ at once; each case that is not so is a line, and the last
+ * line counts them all. */
 #include "axle_gateway.h"
 
 #include <stdio.h>
@@ -54,8 +55,8 @@ static size_t hello(uint8_t *to, uint8_t type, const uint8_t *rest, size_t lengt
 
 /* ---- Version and sizes ------------------------------------------------------------------------------------------- */
 
-#if AXLE_GATEWAY_VERSION_NUMBER < 200
-#error "older than 0.2.0"
+#if AXLE_GATEWAY_VERSION_NUMBER < 300
+#error "older than 0.3.0"
 #endif
 
 static void versions(void)
@@ -152,6 +153,77 @@ static void parts(void)
     IS(refused.refusal.number == AXLE_MALFORMED && at(refused.hello.random, 0, 0) && at(refused.hello.extensions.list, 0, 0));
 }
 
+/* ---- Writing ------------------------------------------------------------------------------------------------------ */
+
+static const uint16_t types[] = {AXLE_TYPE_RENEGOTIATION_INFO, AXLE_TYPE_EXTENDED_MASTER_SECRET}, lengths[] = {1, 0};
+static const uint8_t data[AXLE_MESSAGE_MAX] = {0}, suite[] = {0, 60};
+
+/* A ClientHello with the list for a first handshake. */
+static AxleWritten own(uint16_t version, uint8_t block, size_t count, size_t data_length, uint8_t *out, size_t room)
+{
+    return axle_write_client_hello(version, name, sizeof name, NULL, 0, suite, sizeof suite, data, 1, block, types, count, lengths,
+                                   count, data, data_length, out, room);
+}
+
+/* A ServerHello with a list of two types at most that have no data. */
+static AxleWritten answered(uint16_t version, size_t random, size_t identifier, const uint16_t *of, size_t count, uint8_t *out,
+                            size_t room)
+{
+    static const uint16_t none[2] = {0, 0};
+    return axle_write_server_hello(version, data, random, data, identifier, 60, 0, count > 0, of, count, none, count, NULL, 0, out,
+                                   room);
+}
+
+static void writing(void)
+{
+    static const uint8_t block[] = {0, 9, 255, 1, 0, 1, 0, 0, 23, 0, 0};
+    static const uint16_t twice[] = {16, 16};
+    static uint8_t out[AXLE_MESSAGE_MAX + 1], made[128];
+    uint16_t found_types[2] = {0, 0}, found_lengths[2] = {0, 0}, longest = AXLE_MESSAGE_MAX - 51;
+    uint8_t found_data[1] = {7};
+    size_t count = 0, length = 0, n = hello(made, CLIENT_HELLO, block, sizeof block);
+    AxleWritten written = own(0x0303, 1, 2, 1, out, n);
+    AxleExtensions read;
+    AxleExtension e;
+    memcpy(made + 6, name, sizeof name); /* the random */
+    IS(written.refusal.number == AXLE_DONE && written.length == n && same(out, made, n));
+    read = axle_read_client_hello(out, n).hello.extensions;
+    IS(read.block && read.indicated && read.indication.length == 0 && read.ems && !read.others);
+    for (e = axle_next_extension(out, n, read.list.at); e.found; e = axle_next_extension(out, n, e.next)) {
+        found_types[count] = e.type;
+        found_lengths[count++] = (uint16_t)e.data.length;
+        memcpy(found_data + length, out + e.data.at, e.data.length);
+        length += e.data.length;
+    }
+    IS(count == 2 && same(found_types, types, sizeof types) && same(found_lengths, lengths, sizeof lengths));
+    IS(length == 1 && found_data[0] == 0);
+    IS(!e.found && e.type == 0 && at(e.data, 0, 0) && e.next == 0);
+
+    written = own(0x0303, 1, 2, 1, out, n - 1);
+    IS(written.refusal.number == AXLE_LENGTH && written.length == 0);
+    IS(own(0x0303, 1, 2, 2, out, sizeof out).refusal.number == AXLE_LENGTH);
+    IS(own(0x0303, 0, 2, 1, out, sizeof out).refusal.number == AXLE_LENGTH);
+    IS(own(0x0302, 1, 2, 1, out, sizeof out).refusal.number == AXLE_VERSION);
+    IS(own(0x0303, 0, 0, 0, out, sizeof out).length == 45);
+    IS(own(0x0303, 1, 0, 0, out, sizeof out).length == 47);
+    IS(answered(0x0303, AXLE_RANDOM_SIZE, AXLE_IDENTIFIER_MAX, NULL, 0, out, 74).length == 74);
+    IS(answered(0x0303, AXLE_RANDOM_SIZE, AXLE_IDENTIFIER_MAX, NULL, 0, out, 73).refusal.number == AXLE_LENGTH);
+    IS(answered(0x0303, AXLE_RANDOM_SIZE, AXLE_IDENTIFIER_MAX + 1, NULL, 0, out, sizeof out).refusal.number == AXLE_LENGTH);
+    IS(answered(0x0303, AXLE_RANDOM_SIZE + 1, 0, NULL, 0, out, sizeof out).refusal.number == AXLE_LENGTH);
+    IS(answered(0x0303, AXLE_RANDOM_SIZE, 0, types, 2, out, sizeof out).refusal.number == AXLE_MALFORMED);
+    IS(answered(0x0303, AXLE_RANDOM_SIZE, 0, twice, 2, out, sizeof out).refusal.number == AXLE_EXTENSION_TWICE);
+    IS(answered(0x0304, AXLE_RANDOM_SIZE, 0, twice, 1, out, sizeof out).refusal.number == AXLE_VERSION);
+
+    /* the longest message fits into AXLE_MESSAGE_MAX bytes, and there is no longer one */
+#define LONG(length, room)                                                                                                      \
+    axle_write_client_hello(0x0303, name, sizeof name, NULL, 0, suite, sizeof suite, data, 1, 1, twice, 1, &longest, 1, data, length, \
+                            out, room)
+    IS(LONG(longest, AXLE_MESSAGE_MAX).length == AXLE_MESSAGE_MAX);
+    IS(LONG(longest, AXLE_MESSAGE_MAX - 1).refusal.number == AXLE_LENGTH);
+    longest++;
+    IS(LONG(longest, sizeof out).refusal.number == AXLE_LENGTH);
+}
+
 /* ---- NULL with a length of 0, in every call that is lent something ------------------------------------------------ */
 
 static void nulls(void)
@@ -173,6 +245,14 @@ static void nulls(void)
     IS(axle_master_secret(NULL, 0, NULL, 0, NULL, 0).number == AXLE_LENGTH);
     IS(axle_read_client_hello(NULL, 0).refusal.number == AXLE_MALFORMED);
     IS(axle_read_server_hello(NULL, 0).refusal.number == AXLE_MALFORMED);
+    IS(!axle_next_extension(NULL, 0, 0).found && !axle_next_extension(NULL, 0, 2).found);
+    IS(axle_write_client_hello(0, NULL, 0, NULL, 0, NULL, 0, NULL, 0, 0, NULL, 0, NULL, 0, NULL, 0, NULL, 0).refusal.number
+       == AXLE_LENGTH);
+    IS(axle_write_server_hello(0, NULL, 0, NULL, 0, 0, 0, 0, NULL, 0, NULL, 0, NULL, 0, NULL, 0).refusal.number == AXLE_LENGTH);
+    IS(axle_write_client_hello(0x0303, name, 32, NULL, 0, suite, 2, data, 1, 1, NULL, 0, NULL, 0, NULL, 0, to, 47).length == 47);
+    IS(axle_write_server_hello(0x0303, name, 32, NULL, 0, 60, 0, 0, NULL, 0, NULL, 0, NULL, 0, to, 42).length == 42);
+    IS(axle_write_server_hello(0x0303, name, 32, NULL, 0, 60, 0, 0, NULL, 0, NULL, 0, NULL, 0, NULL, 0).refusal.number
+       == AXLE_LENGTH);
     IS(axle_table_store(table, 1, NULL, 0, 0, NULL, 0).refusal.number == AXLE_AXLE_OR_IDENTIFIER);
     IS(axle_table_store(table, 1, name, 1, 0, NULL, 0).refusal.number == AXLE_LENGTH);
     IS(axle_table_look_up(table, 1, NULL, 0, NULL, 0).refusal.number == AXLE_AXLE_OR_IDENTIFIER);
@@ -285,6 +365,7 @@ int main(void)
     versions();
     sizes();
     parts();
+    writing();
     nulls();
     hash_in_place();
     table_in_place();

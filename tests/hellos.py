@@ -1,6 +1,7 @@
-"""Hellos, made by hand: whole, damaged and hostile."""
+"""Hellos, made by hand: whole, damaged and hostile; and fields of hellos, as the writers take them."""
 
 import random
+from typing import NamedTuple
 
 from oracle.hello import EMS, RI
 
@@ -84,3 +85,60 @@ def damaged(r: random.Random, whole):
     if r.random() < 0.8 and len(body) >= 4:
         body[1:4] = (len(body) - 4).to_bytes(3, "big")
     return bytes(body)
+
+
+# ---- Fields, as the writers take them
+
+
+class Client(NamedTuple):
+    version: int = 0x0303
+    random: bytes = bytes(range(32))
+    identifier: bytes = b""
+    suites: bytes = b"\x00\x2f"
+    methods: bytes = b"\x00"
+    block: int = 0
+    types: tuple = ()
+    lengths: tuple = ()
+    data: bytes = b""
+
+
+class Server(NamedTuple):
+    version: int = 0x0303
+    random: bytes = bytes(range(32))
+    identifier: bytes = b""
+    suite: int = 0x002F
+    compression: int = 0
+    block: int = 0
+    types: tuple = ()
+    lengths: tuple = ()
+    data: bytes = b""
+
+
+def listed(extensions):
+    """Extensions, (type, data) each, as the three lists of a writer."""
+    kinds, data = [t for t, _ in extensions], [d for _, d in extensions]
+    return dict(types=tuple(kinds), lengths=tuple(map(len, data)), data=b"".join(data))
+
+
+def some_extension(r):
+    data = r.randbytes(r.choice((0, 0, 1, 12, 24, 255)))
+    other = r.choice((0, 10, 11, 13, 16, 35, 0x1700, 0x01FF, 0xFF00, 0xFF02, r.randrange(65536)))
+    kind = r.choice((EMS, RI, other, other))
+    return kind, b"" if kind == EMS else vector(1, data) if kind == RI else r.randbytes(r.choice((0, 0, 1, 2, 40, 300)))
+
+
+def some_fields(r: random.Random, kind=None):
+    """Fields within their bounds, a list that fits, and no type twice."""
+    kind = kind or r.choice((Client, Server))
+    extensions = dict(some_extension(r) for _ in range(r.choice((0, 0, 1, 2, 3, 6, 12))))
+    fields = dict(
+        version=r.choice((0x0303, 0x0303, 0x0304, 0xFEFD, 0xFFFF, r.randrange(0x0303, 65536))) if kind is Client else 0x0303,
+        random=r.randbytes(32),
+        identifier=r.randbytes(r.choice((0, 0, 1, 31, 32, r.randrange(33)))),
+        block=1 if extensions else r.randrange(2),
+        **listed(extensions.items()),
+    )
+    if kind is Client:
+        suites, methods = r.choice((1, 2, 31, 128)), r.choice((1, 1, 2, 255, r.randrange(1, 256)))
+        return Client(suites=r.randbytes(2 * suites), methods=r.randbytes(methods), **fields)
+    return Server(suite=r.randrange(65536), compression=r.randrange(256), **fields)

@@ -2,11 +2,13 @@
 
 Each lent slice stands flush against a page that may not be touched, behind it or before it, so that a read or a write
 outside ends the run; what stands around it in its own pages must be as it was, and so must every slice that is only read.
+What a writer of hellos wrote is read again.
 
   tests/soak.py [SECONDS [SEED]]      ten minutes and seed 1 where nothing is said
 """
 
 import ctypes as c
+import itertools
 import mmap
 import pathlib
 import random
@@ -19,10 +21,16 @@ from tests import face, hellos, values  # noqa: E402
 
 PAGE = mmap.PAGESIZE
 LONGEST = 16_390
+LENT_AT_ONCE = max(sum(isinstance(kind, tuple) for kind in kinds) for _, kinds in face.CALLS.values())
 ROOM = -(-LONGEST // PAGE) * PAGE
 LIBC = c.CDLL(None, use_errno=True)
 LIBC.mprotect.argtypes = [c.c_void_p, c.c_size_t, c.c_int]
 TABLE_NUMBERS = range(12)
+# what a writer takes, and the reader of what it wrote
+WRITERS = {
+    "axle_write_client_hello": (hellos.Client, face.read_client_hello),
+    "axle_write_server_hello": (hellos.Server, face.read_server_hello),
+}
 
 
 class Guarded:
@@ -68,10 +76,31 @@ def some_bytes(r, short):
     return whole if way < 11 else hellos.damaged(r, whole)[:LONGEST]
 
 
+def some_number(r, kind):
+    """Of that width."""
+    return r.choice((0, 1, 2, 3, 6, 7, *((0x0303, 0x0303) if kind is face.u16 else ()), r.randrange(2 ** (8 * c.sizeof(kind)))))
+
+
+def drawn(r, name):
+    """Arguments that go together: for a writer the fields of a hello, one of them spoilt at times; for the client's decision our
+    server's hello and the session that it names. None is left to chance, and so is what is not there."""
+    if name == "axle_decide_client" and r.random() < 0.3:
+        named = r.randbytes(r.randrange(33))
+        return [hellos.server_hello(named, extensions=hellos.ri() + hellos.ems()), named, 1, named, 1]
+    if name not in WRITERS or r.random() < 0.2:
+        return []
+    given = [bytes(face.numbers(value)) if isinstance(value, tuple) else value for value in hellos.some_fields(r, WRITERS[name][0])]
+    if r.random() < 0.5:
+        at = r.randrange(len(given))
+        old = given[at]
+        given[at] = r.choice((None, r.randbytes(len(old)), old[:2] * (len(old) // 2))) if isinstance(old, bytes) else None
+    return given
+
+
 def soak(seconds, seed, calls=float("inf")):
     """How many calls were made, and the numbers that each was answered."""
     r = random.Random(seed)
-    pages = [Guarded() for _ in range(3)]
+    pages = [Guarded() for _ in range(LENT_AT_ONCE)]
     kept = {}  # structs that calls answered, to be handed in again
     short = []  # the last short slices that were lent
     made, numbers = 0, {}
@@ -81,15 +110,19 @@ def soak(seconds, seed, calls=float("inf")):
         name = r.choice(names)
         f, kinds = face.CALLS[name]
         passed, lent, records = [], [], []
-        for kind in kinds:
+        given = drawn(r, name)
+        for kind, value in itertools.zip_longest(kinds, given):
             if isinstance(kind, tuple):
                 page = pages[len(lent)]
-                data = lent[-1][2] if lent and r.random() < 0.2 else some_bytes(r, short)
-                if len(data) <= 64:
+                data = value if value is not None else lent[-1][2] if lent and r.random() < 0.2 else some_bytes(r, short)
+                if len(data) <= 64 and value is None:
                     short.append(data)
                     del short[:-20]
+                width = 2 if kind is face.NUMBERS else 1
+                data = data[: len(data) // width * width]
                 place = page.lay(data, r.random() < 0.5)
-                passed += [c.c_void_p(place if data or r.random() < 0.5 else None), len(data)]  # no bytes: any pointer, NULL too
+                # no bytes: any pointer, NULL too
+                passed += [c.c_void_p(place if data or r.random() < 0.5 else None), len(data) // width]
                 lent.append((page, kind is face.LENT, data))
             elif issubclass(kind, c.Structure):
                 passed.append(r.choice(kept[kind]) if kind in kept and r.random() < 0.7 else values.some(r, kind))
@@ -98,9 +131,9 @@ def soak(seconds, seed, calls=float("inf")):
                 records.append((record, bytes(record)))
                 passed.append(c.byref(record))
             else:
-                passed.append(r.choice((0, 1, 2, 3, 6, 7, r.randrange(256))))
+                passed.append(some_number(r, kind) if value is None else value)
         argtypes, f.argtypes = f.argtypes, None
-        f.argtypes = [c.c_void_p if t is c.c_char_p else t for t in argtypes]
+        f.argtypes = [c.c_void_p if t in (c.c_char_p, c.POINTER(face.u16)) else t for t in argtypes]
         answer = f(*passed)
         f.argtypes = argtypes
         made += 1
@@ -119,6 +152,9 @@ def soak(seconds, seed, calls=float("inf")):
             assert page.around_untouched(), name
             if not written or refused:
                 assert page.now() == data, name
+        if name in WRITERS and not refused:
+            message = page.now()[: answer.length]
+            assert WRITERS[name][1](message).refusal.number == 0 and page.now()[answer.length :] == data[answer.length :], name
         for field, kind in getattr(answer, "_fields_", ()):
             if isinstance(getattr(answer, field), c.Structure) and kind is not face.Refusal:
                 kept.setdefault(kind, []).append(kind.from_buffer_copy(getattr(answer, field)))

@@ -179,6 +179,80 @@ static void hellos(void)
     TRY(axle_read_server_hello, bytes, 16389);
 }
 
+/* MOST: extensions of a ServerHello; a ClientHello has room for one less */
+enum { MOST = 4086, EMS = AXLE_TYPE_EXTENDED_MASTER_SECRET, RI = AXLE_TYPE_RENEGOTIATION_INFO };
+
+static uint16_t types[MOST + 1], lengths[MOST + 2];
+
+/* Both writers on so many types, with so many bytes of data, and every fault beside: fields outside their bounds, lists that do not
+ * add up, a message too long, versions, outputs too short. Then the extensions of what was written, asked from many places. */
+static void written(uint8_t block, size_t count, size_t data, uint8_t number)
+{
+    static uint8_t to[AXLE_MESSAGE_MAX];
+    static const uint16_t versions[] = {0x0302, 0x0303, 0x0304};
+    static const size_t rooms[] = {0, 40, sizeof to};
+#define LISTS(lengths_count, data_length) block, types, count, lengths, lengths_count, bytes, data_length
+#define CLIENT(version, random, offered, suites, methods, lists, room) \
+    TRY(axle_write_client_hello, version, bytes, random, bytes, offered, bytes, suites, bytes, methods, lists, to, room)
+#define SERVER(version, random, offered, lists, room) \
+    TRY(axle_write_server_hello, version, bytes, random, bytes, offered, 60, 0, lists, to, room)
+    for (size_t i = 0; i < 3; i++)
+        for (size_t j = 0; j < 3; j++) {
+            CLIENT(versions[i], 32, 32, 2, 1, LISTS(count, data), rooms[j]);
+            CLIENT(versions[i], 32, 0, 600, 255, LISTS(count, data), rooms[j]);
+            SERVER(versions[i], 32, 0, LISTS(count, data), rooms[j]);
+            SERVER(versions[i], 32, 32, LISTS(count, data), rooms[j]);
+        }
+    CLIENT(0x0303, 31, 0, 2, 1, LISTS(count, data), sizeof to);
+    CLIENT(0x0303, 32, 33, 2, 1, LISTS(count, data), sizeof to);
+    CLIENT(0x0303, 32, 0, 0, 1, LISTS(count, data), sizeof to);
+    CLIENT(0x0303, 32, 0, 3, 1, LISTS(count, data), sizeof to);
+    CLIENT(0x0303, 32, 0, 65536, 1, LISTS(count, data), sizeof to);
+    CLIENT(0x0303, 32, 0, 16344, 2, LISTS(count, data), sizeof to);
+    CLIENT(0x0303, 32, 0, 2, 0, LISTS(count, data), sizeof to);
+    CLIENT(0x0303, 32, 0, 2, 256, LISTS(count, data), sizeof to);
+    CLIENT(0x0303, 32, 0, 2, 1, LISTS(count + 1, data), sizeof to);
+    CLIENT(0x0303, 32, 0, 2, 1, LISTS(count, data + 1), sizeof to);
+    SERVER(0x0303, 31, 0, LISTS(count, data), sizeof to);
+    SERVER(0x0303, 32, 33, LISTS(count, data), sizeof to);
+    SERVER(0x0303, 32, 0, LISTS(count + 1, data), sizeof to);
+    SERVER(0x0303, 32, 0, LISTS(count, data + 1), sizeof to);
+    AxleWritten whole = axle_write_server_hello(0x0303, bytes, 32, bytes, 0, 60, 0, LISTS(count, data), to, sizeof to);
+    must(whole.refusal.number == number, "a list of extensions");
+    for (size_t at = 0; at < whole.length + 3; at += at < 60 ? 1 : 97)
+        TRY(axle_next_extension, to, whole.length, at);
+    TRY(axle_next_extension, to, whole.length, (size_t)-1);
+}
+
+static void writers(void)
+{
+    for (size_t i = 0; i <= MOST; i++)
+        types[i] = (uint16_t)(0x1000 + i);
+    written(0, 0, 0, AXLE_DONE);
+    written(1, 0, 0, AXLE_DONE);
+    written(0, 1, 0, AXLE_LENGTH);
+    written(1, 2, 0, AXLE_DONE);
+    written(1, MOST - 1, 0, AXLE_DONE); /* the most of a ClientHello */
+    written(1, MOST, 0, AXLE_DONE);
+    written(1, MOST + 1, 0, AXLE_LENGTH);
+    types[MOST - 2] = types[0];
+    written(1, MOST - 1, 0, AXLE_EXTENSION_TWICE);
+    lengths[0] = 16337; /* the longest hellos, in one extension */
+    written(1, 1, 16337, AXLE_DONE);
+    lengths[0] = 16340;
+    written(1, 1, 16340, AXLE_DONE);
+    lengths[0] = 16341;
+    written(1, 1, 16341, AXLE_LENGTH);
+    types[0] = RI, types[1] = EMS, lengths[0] = (uint16_t)(bytes[0] + 1);
+    written(1, 2, lengths[0], AXLE_DONE);
+    types[2] = EMS;
+    written(1, 3, lengths[0], AXLE_EXTENSION_TWICE);
+    lengths[1] = 1;
+    written(1, 2, lengths[0] + 1u, AXLE_MALFORMED);
+    lengths[0] = 0;
+    written(1, 2, 1, AXLE_MALFORMED);
+}
+
 /* The table with n sessions, spread over the axles. */
 static AxleTable filled(size_t n)
 {
@@ -310,6 +384,7 @@ int main(void)
     hashes();
     secrets();
     hellos();
+    writers();
     tables();
     decisions();
     logs();

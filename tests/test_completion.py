@@ -5,11 +5,14 @@ import itertools
 import random
 
 from oracle import decision as decisions
-from oracle import numbers
+from oracle import numbers, secrets
+from oracle.book import Book
 from oracle.decision import Connection, Switches
+from oracle.hello import EMS, RI
 from oracle.log import complete
-from tests import face, hellos
+from tests import face, hellos, test_writing
 from tests.handshakes import full_and_resumed
+from tests.test_decision import client_agrees, server_agrees
 from tests.test_log import Pair, copied
 
 
@@ -96,3 +99,99 @@ def test_flags_of_any_value():
         seen = decisions.Decision(0, bool(raw.resumes), True, bool(raw.indication), bool(raw.bar))
         agree(p, Connection(), seen, raw)
 
+
+# ---- Our own hellos, by the writers
+
+AXLE, REPLY_MAX = 3, 35
+
+
+class Sides:
+    """Our client and our server, each with its record of one connection; every answer is compared with the second program's."""
+
+    def __init__(self, r):
+        self.r, self.table, self.book = r, face.table_fresh(), Book()
+        self.connect()
+
+    def connect(self):
+        self.client = self.server = Connection()
+
+    def written(self, fields):
+        number, message = test_writing.agree(fields, self.r.randbytes(300))
+        assert number == 0
+        return message
+
+    def hello(self, offered, indicates, ems):
+        """Our client's hello; without EMS, or with neither, an older client's."""
+        saved = self.client.client if self.client.completed else b""
+        lists = hellos.listed([(RI, hellos.vector(1, saved))] * indicates + [(EMS, b"")] * ems)
+        return self.written(hellos.Client(random=self.r.randbytes(32), identifier=offered, block=int(indicates or ems), **lists))
+
+    def answer(self, named, reply):
+        """Our server's hello: the reply is taken apart, and stands behind the method again."""
+        extensions, end = test_writing.handed_out(reply, 2)
+        assert end == max(2, len(reply))
+        lists = hellos.listed(extensions)
+        message = self.written(hellos.Server(random=self.r.randbytes(32), identifier=named, block=int(bool(reply)), **lists))
+        assert message[4 + 2 + 32 + 1 + len(named) + 2 + 1 :] == reply
+        return message
+
+    def secret(self, hello, answer, session_hash, ems):
+        pre_master, lent = self.r.randbytes(48), face.lend(bytes(48))
+        if ems:
+            ours, theirs, seed = face.extended_master_secret, secrets.extended_master_secret, session_hash
+        else:
+            ours, theirs, seed = face.master_secret, secrets.master_secret, hello[6:38] + answer[6:38]
+        assert ours(pre_master, seed, lent).number == 0 and theirs(pre_master, seed, bytes(48)) == (0, bytes(lent))
+        return bytes(lent)
+
+    def handshake(self, session, indicates, ems, switches):
+        """session: None, or what the client offers: (identifier, EMS, secret). Both numbers, and the session made or offered."""
+        offered, known = (session[0], session[:2]) if session else (b"", None)
+        hello = self.hello(offered, indicates, ems)
+        decided, reply = server_agrees(hello, AXLE, self.table, self.book, self.server, switches, self.r.randbytes(REPLY_MAX))
+        if decided.number:  # no reply; the client would not take one either
+            return decided.number, client_agrees(self.answer(b"", b""), offered, known, self.client, switches).number, session
+        named = offered if decided.resumes else self.r.randbytes(32)
+        answer = self.answer(named, reply)
+        assert client_agrees(answer, offered, known, self.client, switches) == decided
+        between = [] if decided.resumes else [hellos.message(kind, self.r.randbytes(40)) for kind in (11, 14, 16)]
+        logs = Pair(), Pair()
+        for log in logs:
+            assert not any(log.accept(message, decided.resumes) for message in (hello, answer, *between))
+        if not decided.resumes:
+            hashes = [log.session_hash() for log in logs]
+            assert hashes[0] == hashes[1]
+            session = named, decided.ems, self.secret(hello, answer, hashes[0][1], decided.ems)
+            assert self.book.store(AXLE, *session) == 0
+            self.table = face.table_store(self.table, AXLE, named, int(decided.ems), session[2]).table
+        for log in logs:
+            log.finish(session[2])
+            log.finish(session[2])
+        completed = [agree(log, record, decided) for log, record in zip(logs, (self.client, self.server))]
+        assert completed[0] == completed[1] and completed[0][0] == 0
+        self.client, self.server = (record for _, record in completed)
+        return 0, 0, session
+
+
+def test_our_own_hellos():
+    """Hellos that the writers made, first and later, full and resumed, through decisions, logs, Finished and completion on both sides:
+    equal outcomes and records, and the server's hello carries the reply byte by byte."""
+    r = random.Random(2)
+    seen = {}
+    for indicates, ems in itertools.product((True, False), repeat=2):
+        switches = Switches(indication_required=indicates, legacy_full=not ems, legacy_resumption=not ems)
+        sides, session = Sides(r), None
+        for resumptions in itertools.product((False, True), repeat=3):  # the first handshake of a connection, and two more
+            sides.connect()
+            for resumes in resumptions:
+                before = sides.client
+                closed = before.completed and (before.barred or not before.indication)
+                server, client, made = sides.handshake(session if resumes else None, indicates, ems, switches)
+                session = made or session
+                assert (server, client) == ((9, 7) if closed else (0, 0))
+                after = Connection(True, indicates, resumes and not ems, sides.client.client, sides.client.server)
+                assert sides.client == sides.server == (before if closed else after)
+                assert closed or len({before.client, before.server, after.client, after.server}) == (4 if before.completed else 3)
+                what = "closed" if closed else f"{'later' if before.completed else 'first'} {'resumed' if resumes else 'full'}"
+                test_writing.counted(seen, what)
+    return test_writing.told(seen, "first full", "first resumed", "later full", "later resumed", "closed")

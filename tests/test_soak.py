@@ -20,6 +20,8 @@ SEEN = {
     "axle_table_look_up": {0, 11},
     "axle_table_store": {0, 10, 11},
     "axle_table_withdraw": {0, 11},
+    "axle_write_client_hello": {0, 1, 2, 3, 10},
+    "axle_write_server_hello": {0, 1, 2, 3, 10},
 }
 
 

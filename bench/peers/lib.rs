@@ -1,7 +1,7 @@
 //! A ClientHello read by tls-parser and by rustls, for bench/hello.c: each as its own users call it, and then what our reading
-//! also tells. rustls looks for a repeated extension type, as its server does; tls-parser does not.
+//! also tells. rustls looks for a repeated extension type, as its server does; tls-parser does not. And one written by rustls.
 
-use rustls::internal::msgs::codec::Reader;
+use rustls::internal::msgs::codec::{Codec, Reader};
 use rustls::internal::msgs::handshake::{ClientExtension, HandshakeMessagePayload, HandshakePayload};
 use rustls::ProtocolVersion;
 use tls_parser::{TlsExtension, TlsMessage, TlsMessageHandshake};
@@ -83,4 +83,27 @@ pub unsafe extern "C" fn tls_parser_read(message: *const u8, length: usize, to: 
 #[no_mangle]
 pub unsafe extern "C" fn rustls_read(message: *const u8, length: usize, to: &mut Reading) {
     let _ = by_rustls(lent(message, length), to);
+}
+
+/// A ClientHello as rustls has it in memory, to be written; nothing where it does not read.
+///
+/// # Safety
+/// `message` is good for `length` bytes.
+#[no_mangle]
+pub unsafe extern "C" fn rustls_hold(message: *const u8, length: usize) -> Option<Box<HandshakeMessagePayload>> {
+    HandshakeMessagePayload::read_version(&mut Reader::init(lent(message, length)), ProtocolVersion::TLSv1_2).map(Box::new)
+}
+
+/// Writes it as rustls's client does, to a new vector, and copies that out. How many bytes it has; 0 where there is no room.
+///
+/// # Safety
+/// `out` is good for `room` bytes.
+#[no_mangle]
+pub unsafe extern "C" fn rustls_write(hello: &HandshakeMessagePayload, out: *mut u8, room: usize) -> usize {
+    let bytes = hello.get_encoding();
+    if bytes.len() > room {
+        return 0;
+    }
+    std::slice::from_raw_parts_mut(out, bytes.len()).copy_from_slice(&bytes);
+    bytes.len()
 }

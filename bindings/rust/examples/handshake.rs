@@ -4,7 +4,8 @@
 //! `cargo run --example handshake`
 
 use axle_gateway::{
-    decide_client, decide_server, extended_master_secret, Connection, Decision, Log, Offer, Result, Secret, Switches,
+    decide_client, decide_server, extended_master_secret, extensions_at, write_client_hello, write_server_hello,
+    ClientHelloFields, Connection, Decision, ExtensionList, Log, Offer, Result, Secret, ServerHelloFields, Switches,
     Table, REPLY_MAX,
 };
 
@@ -13,8 +14,6 @@ const STRICT: Switches = Switches { indication_required: true, legacy_full: fals
 const PRE_MASTER: [u8; 48] = [42; 48];
 const IDENTIFIER: &[u8] = b"next";
 
-const CLIENT_HELLO: u8 = 1;
-const SERVER_HELLO: u8 = 2;
 const CERTIFICATE: u8 = 11;
 const HELLO_DONE: u8 = 14;
 const KEY_EXCHANGE: u8 = 16;
@@ -26,26 +25,41 @@ fn message(kind: u8, body: &[u8]) -> Vec<u8> {
 }
 
 /// Our client's hello: RI and EMS, for a first handshake, and an identifier if it has a session.
-pub fn client_hello(identifier: &[u8]) -> Vec<u8> {
-    let rest = [0, 2, 0, 0x3b, 1, 0, 0, 9, 0xff, 1, 0, 1, 0, 0, 0x17, 0, 0];
-    message(CLIENT_HELLO, &[&[3, 3], &[7; 32][..], &[identifier.len() as u8], identifier, &rest].concat())
+pub fn client_hello(identifier: &[u8]) -> Result<Vec<u8>> {
+    let extensions = ExtensionList::<2, 1>::new().renegotiation_info(b"")?.extended_master_secret()?;
+    let fields = ClientHelloFields {
+        version: 0x0303,
+        random: &[7; 32],
+        identifier,
+        suites: &[0, 0x3b],
+        methods: &[0],
+        extensions: Some(extensions.lists()),
+    };
+    Ok(write_client_hello(&fields, &mut [0; 128])?.to_vec())
 }
 
-/// Our server's hello, with the reply that was decided.
-pub fn server_hello(identifier: &[u8], reply: &[u8]) -> Vec<u8> {
-    let chosen = [0, 0x3b, 0];
-    message(SERVER_HELLO, &[&[3, 3], &[9; 32][..], &[identifier.len() as u8], identifier, &chosen, reply].concat())
+/// Our server's hello, with the reply that was decided: an extension block, or nothing at all.
+pub fn server_hello(identifier: &[u8], reply: &[u8]) -> Result<Vec<u8>> {
+    let list = ExtensionList::<2, 25>::new().with_all(extensions_at(reply, 2))?;
+    let fields = ServerHelloFields {
+        random: &[9; 32],
+        identifier,
+        suite: 0x003b,
+        compression: 0,
+        extensions: (!reply.is_empty()).then(|| list.lists()),
+    };
+    Ok(write_server_hello(&fields, &mut [0; 128])?.to_vec())
 }
 
 /// Both hellos: the server decides and replies, the client decides on the reply; both must see the same.
 fn hellos(log: &mut Log, table: &Table, offer: Option<Offer<'_>>) -> Result<Decision> {
     let fresh = Connection::new();
     let offered = offer.map_or(&[][..], |offer| offer.identifier);
-    let hello = client_hello(offered);
+    let hello = client_hello(offered)?;
     let mut room = [0; REPLY_MAX];
     let (server, reply) = decide_server(&hello, AXLE, table, &fresh, STRICT, &mut room)?;
     log.accept(&hello, false)?;
-    let answer = server_hello(if server.resumes() { offered } else { IDENTIFIER }, reply);
+    let answer = server_hello(if server.resumes() { offered } else { IDENTIFIER }, reply)?;
     let client = decide_client(&answer, offer, &fresh, STRICT)?;
     assert_eq!(
         (client.resumes(), client.ems(), client.indication()),

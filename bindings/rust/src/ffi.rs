@@ -102,6 +102,22 @@ pub struct ServerReading {
 
 #[repr(C)]
 #[derive(Clone, Copy)]
+pub struct Extension {
+    pub found: u8,
+    pub r#type: u16,
+    pub data: Part,
+    pub next: usize,
+}
+
+#[repr(C)]
+#[derive(Clone, Copy)]
+pub struct Written {
+    pub refusal: Refusal,
+    pub length: usize,
+}
+
+#[repr(C)]
+#[derive(Clone, Copy)]
 pub struct Entry {
     pub axle: u8,
     pub ems: u8,
@@ -256,6 +272,46 @@ extern "C" {
 
     pub fn axle_read_client_hello(message: *const u8, length: usize) -> ClientReading;
     pub fn axle_read_server_hello(message: *const u8, length: usize) -> ServerReading;
+    pub fn axle_next_extension(message: *const u8, length: usize, at: usize) -> Extension;
+
+    pub fn axle_write_client_hello(
+        version: u16,
+        random: *const u8,
+        random_length: usize,
+        identifier: *const u8,
+        identifier_length: usize,
+        suites: *const u8,
+        suites_length: usize,
+        methods: *const u8,
+        methods_length: usize,
+        block: u8,
+        types: *const u16,
+        types_length: usize,
+        lengths: *const u16,
+        lengths_length: usize,
+        data: *const u8,
+        data_length: usize,
+        out: *mut u8,
+        out_length: usize,
+    ) -> Written;
+    pub fn axle_write_server_hello(
+        version: u16,
+        random: *const u8,
+        random_length: usize,
+        identifier: *const u8,
+        identifier_length: usize,
+        suite: u16,
+        compression: u8,
+        block: u8,
+        types: *const u16,
+        types_length: usize,
+        lengths: *const u16,
+        lengths_length: usize,
+        data: *const u8,
+        data_length: usize,
+        out: *mut u8,
+        out_length: usize,
+    ) -> Written;
 
     pub fn axle_table_fresh() -> Table;
     pub fn axle_table_store(

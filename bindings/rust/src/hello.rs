@@ -2,6 +2,7 @@
 
 use crate::ffi;
 use crate::refusal::{done, Result};
+use core::iter::FusedIterator;
 
 /// What a hello says by its extensions.
 #[derive(Clone, Copy, Debug, PartialEq, Eq)]
@@ -14,6 +15,61 @@ pub struct Extensions<'a> {
     pub extended_master_secret: bool,
     /// A type other than these two is there.
     pub others: bool,
+}
+
+/// One extension of a hello.
+#[derive(Clone, Copy, Debug, PartialEq, Eq)]
+pub struct Extension<'a> {
+    /// Its type.
+    pub kind: u16,
+    /// What stands behind its type and length.
+    pub data: &'a [u8],
+}
+
+/// Extensions, one after the other; [`extensions_at`] and [`Extensions::iter`] make it.
+#[derive(Clone, Debug)]
+pub struct ExtensionIter<'a> {
+    bytes: &'a [u8],
+    at: usize,
+}
+
+/// The extensions that stand one after the other in `bytes` from place `at` on, up to the first that is not whole: those of the
+/// reply of [`decide_server`](crate::decide_server) from place 2 on. Any bytes and any place may be asked.
+#[must_use]
+pub fn extensions_at(bytes: &[u8], at: usize) -> ExtensionIter<'_> {
+    ExtensionIter { bytes, at }
+}
+
+impl<'a> Iterator for ExtensionIter<'a> {
+    type Item = Extension<'a>;
+
+    fn next(&mut self) -> Option<Extension<'a>> {
+        // SAFETY: the slice is good for its length and only read.
+        let raw = unsafe { ffi::axle_next_extension(self.bytes.as_ptr(), self.bytes.len(), self.at) };
+        (raw.found != 0).then(|| {
+            self.at = raw.next;
+            Extension { kind: raw.r#type, data: part(self.bytes, raw.data) }
+        })
+    }
+}
+
+impl FusedIterator for ExtensionIter<'_> {}
+
+impl<'a> Extensions<'a> {
+    /// The extensions, in order; none where there is no block.
+    #[must_use]
+    pub fn iter(&self) -> ExtensionIter<'a> {
+        extensions_at(self.list.unwrap_or(&[]), 0)
+    }
+}
+
+impl<'a> IntoIterator for &Extensions<'a> {
+    type Item = Extension<'a>;
+    type IntoIter = ExtensionIter<'a>;
+
+    fn into_iter(self) -> ExtensionIter<'a> {
+        self.iter()
+    }
 }
 
 /// The fields of a ClientHello, as slices of the message that was read.

@@ -35,12 +35,19 @@ mod secrets;
 mod sizes;
 mod table;
 mod wiped;
+mod writing;
 
 pub use decision::{decide_client, decide_server, Connection, Decision, Offer, Switches};
 pub use hash::{sha256, Hash};
-pub use hello::{read_client_hello, read_server_hello, ClientHello, Extensions, ServerHello};
+pub use hello::{
+    extensions_at, read_client_hello, read_server_hello, ClientHello, Extension, ExtensionIter, Extensions, ServerHello,
+};
 pub use log::Log;
 pub use refusal::{Alert, Level, Refusal, Result};
 pub use secrets::{extended_master_secret, hmac, master_secret, Secret};
 pub use sizes::*;
 pub use table::{Session, Table};
+pub use writing::{
+    write_client_hello, write_server_hello, ClientHelloFields, ExtensionList, ExtensionLists, ServerHelloFields,
+    EXTENDED_MASTER_SECRET, RENEGOTIATION_INFO,
+};

@@ -4,7 +4,14 @@
 mod example;
 
 use axle_gateway::*;
-use example::{client_hello, server_hello};
+
+fn client_hello(identifier: &[u8]) -> Vec<u8> {
+    example::client_hello(identifier).unwrap()
+}
+
+fn server_hello(identifier: &[u8], reply: &[u8]) -> Vec<u8> {
+    example::server_hello(identifier, reply).unwrap()
+}
 
 const LEGACY: Switches = Switches { indication_required: false, legacy_full: true, legacy_resumption: true };
 

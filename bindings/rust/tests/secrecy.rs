@@ -36,6 +36,11 @@ fn marked_log() -> Log {
     log
 }
 
+/// As our client's in a later handshake.
+fn marked_list() -> ExtensionList<2, 16> {
+    ExtensionList::new().renegotiation_info(&[MARK; 12]).unwrap()
+}
+
 #[test]
 fn dropped_values_are_zeros() {
     fn zeros(bytes: Vec<u8>) -> bool {
@@ -50,6 +55,7 @@ fn dropped_values_are_zeros() {
     assert!(zeros(left_by(Connection::new())));
     let session = marked_table().look_up(1, &[MARK; 32]).unwrap().unwrap();
     assert!(session.secret.as_bytes() == &SECRET && left_by(session).iter().all(|byte| *byte != MARK));
+    assert!(left_by(marked_list()).iter().all(|byte| *byte != MARK));
 }
 
 #[test]
@@ -58,7 +64,8 @@ fn debug_shows_no_secret() {
     let session = table.look_up(1, &[MARK; 32]).unwrap().unwrap();
     let secret = Secret::from(SECRET);
     let (hash, log, connection) = (marked_hash(), marked_log(), Connection::new());
-    let all: [&dyn Debug; 6] = [&table, &session, &secret, &hash, &log, &connection];
+    let list = marked_list();
+    let all: [&dyn Debug; 8] = [&table, &session, &secret, &hash, &log, &connection, &list, &list.lists()];
     let text = format!("{all:?} {all:#?}");
     assert!(!text.contains("199") && !text.to_lowercase().contains("c7"), "{text}");
     assert_eq!(format!("{session:?}"), "Session { ems: true, secret: Secret(..) }");

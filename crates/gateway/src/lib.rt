@@ -7,3 +7,4 @@ mod logs;
 mod refusals;
 mod secrets;
 mod tables;
+mod writers;
