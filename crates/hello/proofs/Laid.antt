@@ -21,7 +21,7 @@ use Rattle.message.proofs.Frames.{stated-long}
 use Rattle.hello.proofs.Lists.{size-of}
 use Rattle.hello.proofs.Inversions.{no-parsed, field-at, vector-at, opening-at, closing-at}
 
-reading-zero : (n : ℕ) (p : Parse Hello) (f : Hello) → readingOf n p ≡ fields f → (n ≡ 0) × (p ≡ parsed f)
+pub reading-zero : (n : ℕ) (p : Parse Hello) (f : Hello) → readingOf n p ≡ fields f → (n ≡ 0) × (p ≡ parsed f)
 reading-zero n malformed f e = let z : _≡_ {A = ℕ} 0 1 = cc in absurd (omega arith)
 reading-zero zero (parsed g) f e = (refl, cc)
 reading-zero (suc n) (parsed g) f e = let z : _≡_ {A = ℕ} 0 1 = cc in absurd (omega arith)
@@ -51,7 +51,7 @@ clean kind layout wrong m f e =
       version = rw (r .1) at (z .1 .1 .1 .1 .1 .0);
     }
 
-pick-parsed : {A : Type 0} (b : Bool) (x : Parse A) (y : A) → pick b x malformed ≡ parsed y → (b ≡ true) × (x ≡ parsed y)
+pub pick-parsed : {A : Type 0} (b : Bool) (x : Parse A) (y : A) → pick b x malformed ≡ parsed y → (b ≡ true) × (x ≡ parsed y)
 pick-parsed true x y e = (refl, e)
 pick-parsed false x y e = no-parsed refl e
 

@@ -3,7 +3,7 @@
 use mathlib.Core.Path.{_≡_, refl, sym, _∙_, ap}
 use mathlib.Core.Bool.{Bool, true, false}
 use mathlib.Core.List.{List, [], _∷_, _++_}
-use Prim.Native.Nat.{ℕ, zero, suc, _+_, _/_, _%_}
+use Prim.Native.Nat.{ℕ, _+_, _/_, _%_}
 use native.Mathlib.Omega.{arith}
 use lib.Dec.{eqb, ltb}
 use lib.ListN.{length, drop}
@@ -17,17 +17,17 @@ use Rattle.refusal.proofs.First.{first-zero}
 use Rattle.message.specs.Numbers.{byteAt, pairAt, tripleAt}
 use Rattle.message.specs.Frame.{overlong, misstated, kindOf, bodyOf}
 use Rattle.message.proofs.Frames.{stated-long}
-use Rattle.hello.specs.Layout.{Parse, malformed, parsed, big}
+use Rattle.hello.specs.Layout.{Parse, parsed, big}
 use Rattle.hello.specs.Fields.{Hello, fields, clientLayout, serverLayout, helloNumber, readingOf, wrongClientVersion, wrongServerVersion, readClient, readServer}
 use Rattle.hello.specs.Learnt.{ClientBounds, ServerBounds}
 use Rattle.hello.specs.Written.{twoBytes}
-use Rattle.hello.proofs.Laid.{clean, parsed-same}
+use Rattle.hello.proofs.Laid.{clean, parsed-same, pick-parsed, reading-zero}
 use Rattle.hello.proofs.Learnt.{client-bounds, server-bounds}
 use Rattle.writing.specs.Lists.{misshapen}
 use Rattle.writing.specs.Messages.{messageOf, vector8, vector16, clientBytes, serverBytes}
 use Rattle.writing.specs.Promise.{openingOutside, clientOutside, serverOutside, unblocked, writeNumber, clientNumber, serverNumber}
 use Rattle.writing.proofs.Back.{clientBody, serverBody, client-bytes, server-bytes}
-use Rattle.writing.proofs.Forth.{bytes-right, picked, field-forth, vector-forth, narrow, wide, opening-forth, closing-forth}
+use Rattle.writing.proofs.Forth.{bytes-right, field-forth, vector-forth, narrow, wide, opening-forth, closing-forth}
 
 -- bytes that are written of the fields that were read from them
 pub record Rewritten (bytes : Hello → List ℕ) (l : List ℕ) (f : Hello) : Type 0 where
@@ -40,7 +40,7 @@ unfolding clientLayout unblocked
 client-body l f h e =
     let o = opening-forth f _ l h e in
     let s = vector-forth f _ 2 2 65534 (o .rest) (o .on) in
-    let t = vector-forth f _ 1 1 255 (s .rest) (picked (eqb (length (s .part) % 2) 0) _ f (s .on) .1) in
+    let t = vector-forth f _ 1 1 255 (s .rest) (pick-parsed (eqb (length (s .part) % 2) 0) _ f (s .on) .1) in
     let front : List ℕ = twoBytes (big (o .version)) ++ o .random ++ vector8 (o .identifier) in
     let s-bytes : Bytes (o .rest) = bytes-right front (o .rest) (rw (o .is) at h) in
     let s-is : o .rest ≡ vector16 (s .part) ++ s .rest = wide f _ (o .rest) 2 s refl s-bytes in
@@ -96,11 +96,6 @@ header-forth kind (a ∷ b ∷ c ∷ d ∷ body) h e k =
     let z : length body % 65536 % 256 ≡ d = omega (arith, h 2, h 3) in
     rw (← k, x, y, z)
 
-number-zero : (n : ℕ) (p : Parse Hello) (f : Hello) → readingOf n p ≡ fields f → n ≡ 0
-number-zero n malformed f e = let z : _≡_ {A = ℕ} 0 1 = cc in absurd (omega arith)
-number-zero zero (parsed g) f e = refl
-number-zero (suc n) (parsed g) f e = let z : _≡_ {A = ℕ} 0 1 = cc in absurd (omega arith)
-
 -- of either hello, by what is known of its body
 module _ (kind : ℕ) (layout : List ℕ → Parse Hello) (wrong : ℕ → Bool) (outside : Hello → Bool) (bytes body : Hello → List ℕ)
     (whole : (f : Hello) → bytes f ≡ messageOf kind (body f))
@@ -109,7 +104,7 @@ module _ (kind : ℕ) (layout : List ℕ → Parse Hello) (wrong : ℕ → Bool)
   message-forth : Rewritten bytes m f
   unfolding helloNumber
   message-forth =
-      let z = first-zero _ refl (number-zero (helloNumber kind layout wrong m) (layout (bodyOf m)) f e) in
+      let z = first-zero _ refl (reading-zero (helloNumber kind layout wrong m) (layout (bodyOf m)) f e .0) in
       let l = header-forth kind m h (z .1 .0) (eqb-true _ kind (not-false _ (z .1 .1 .0))) in
       let b = laid (drop 4 m) f (λ i. rw (getD-drop 4 m i 0) (h (4 + i))) (clean kind layout wrong m f e .laid) in
       record { is = whole f ∙ ap (messageOf kind) (b .is) ∙ l; blocked = b .blocked; shapes = b .shapes }

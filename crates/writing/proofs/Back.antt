@@ -1,7 +1,7 @@
 -- Reading what was written: each field, and then the whole of either hello, comes back as it was.
 -- Assumes nothing.
 use mathlib.Core.Path.{_≡_, refl, sym, _∙_, ap}
-use mathlib.Core.Bool.{Bool, true, false, not, _&&_, _||_}
+use mathlib.Core.Bool.{Bool, true, false, not, _&&_}
 use mathlib.Core.List.{List, [], _∷_, _++_, append-assoc}
 use Prim.Native.Nat.{ℕ, suc, _%_, _≤_}
 use native.Mathlib.Omega.{arith}
@@ -23,6 +23,7 @@ use Rattle.hello.proofs.Vectors.{field-yes}
 use Rattle.hello.proofs.Reread.{two-back, block-back}
 use Rattle.writing.specs.Lists.{misshapen}
 use Rattle.writing.specs.Messages.{messageOf, vector8, vector16, openingBytes, closingBytes, clientBytes, serverBytes}
+use Rattle.writing.proofs.Sizing.{none-of}
 use Rattle.writing.specs.Promise.{openingOutside, clientOutside, serverOutside, unblocked, writeNumber, clientNumber, serverNumber}
 
 -- the bodies of the two hellos, as the layouts take them apart
@@ -42,19 +43,6 @@ client-bytes f = ap (messageOf 1) (apart (openingBytes f) (vector16 (f .suites))
 pub server-bytes : (f : Hello) → serverBytes f ≡ messageOf 2 (serverBody f)
 unfolding serverBytes
 server-bytes f = ap (messageOf 2) (apart (openingBytes f) (f .suites) (f .methods) (closingBytes f))
-
--- tests one after the other of which none holds
-abbrev anyOf : Bool → List Bool → Bool
-anyOf a [] = a
-anyOf a (t ∷ ts) = anyOf (a || t) ts
-
-abbrev None : List Bool → Type 0
-None [] = Unit {0}
-None (t ∷ ts) = (t ≡ false) × None ts
-
-none-of : (a : Bool) (ts : List Bool) → anyOf a ts ≡ false → (a ≡ false) × None ts
-none-of a [] h = (h, tt)
-none-of a (t ∷ ts) h = let r = none-of (a || t) ts h in (or-left a t (r .0), (or-right a t (r .0), r .1))
 
 -- a field in front of the rest
 field-back : {A : Type 0} (then : List ℕ → List ℕ → Parse A) (n : ℕ) (d rest : List ℕ) → length d ≡ n → field n (d ++ rest) then ≡ then d rest

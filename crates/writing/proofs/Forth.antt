@@ -16,7 +16,7 @@ use Rattle.hello.specs.Extensions.{Extension, shaped, extension, more, listOf, 
 use Rattle.hello.specs.Fields.{Hello, listed, opening, closing}
 use Rattle.hello.specs.Written.{twoBytes, writtenList, writtenBlock}
 use Rattle.hello.proofs.Inversions.{no-parsed, field-at}
-use Rattle.hello.proofs.Laid.{parsed-same}
+use Rattle.hello.proofs.Laid.{parsed-same, pick-parsed}
 use Rattle.writing.specs.Lists.{misshapen}
 use Rattle.writing.specs.Messages.{vector8, vector16}
 use Rattle.writing.proofs.Back.{empty}
@@ -47,10 +47,6 @@ two-forth (a ∷ b ∷ []) h e =
     let r : big (a ∷ b ∷ []) % 256 ≡ b = omega (arith, h 1) in
     rw (q, r)
 two-forth (a ∷ b ∷ c ∷ l) h e = absurd (omega arith)
-
-pub picked : {A : Type 0} (b : Bool) (p : Parse A) (x : A) → pick b p malformed ≡ parsed x → (b ≡ true) × (p ≡ parsed x)
-picked true p x e = (refl, e)
-picked false p x e = no-parsed refl e
 
 -- what was taken from the front
 module _ {A : Type 0} (x : A) (then : List ℕ → List ℕ → Parse A) (l : List ℕ) where
@@ -112,7 +108,7 @@ vector-forth x then w low high l e =
       is = c .is;
       width = c .width;
       counts = c .counts;
-      on = picked (leb (length (c .part)) high) _ x (picked (leb low (length (c .part))) _ x (c .on) .1) .1;
+      on = pick-parsed (leb (length (c .part)) high) _ x (pick-parsed (leb low (length (c .part))) _ x (c .on) .1) .1;
     }
 
 -- the opening
@@ -160,7 +156,7 @@ extension-forth es then l h e =
     let c = counted-forth es _ 2 (t .rest) (t .on) in
     let b : Bytes (t .part ++ t .rest) = rw (t .is) at h in
     let n : twoBytes (big (t .part)) ≡ t .part = two-forth (t .part) (bytes-left (t .part) (t .rest) b) (t .size) in
-    let p = picked (shaped (big (t .part)) (c .part)) _ es (c .on) in
+    let p = pick-parsed (shaped (big (t .part)) (c .part)) _ es (c .on) in
     record {
       first = record { kind = big (t .part); content = c .part };
       rest = c .rest;
@@ -191,7 +187,7 @@ more-again e r es rest l m is s a = rw (m, is, s, a .0, a .1) (refl, refl)
 
 list-forth : (n : ℕ) (l : List ℕ) (es : List Extension) → Bytes l → listOf n l ≡ parsed es → Again es l
 unfolding listOf
-list-forth zero l es h e = let p = picked (eqb (length l) 0) _ es e in none-again l es (p .0) (p .1)
+list-forth zero l es h e = let p = pick-parsed (eqb (length l) 0) _ es e in none-again l es (p .0) (p .1)
 list-forth (suc n) l es h e =
     by-test (eqb (length l) 0)
     (λ z. none-again l es z (rw z at e))
@@ -222,7 +218,7 @@ closing-forth f then l h e =
     (λ z. record { block = false; extensions = []; is = empty l z; blocked = refl; shapes = refl; on = rw z at e })
     (λ z.
     let c = counted-forth f (λ inside after. pick (eqb (length after) 0) (listed (extensionsOf inside) (λ es. then true es)) malformed) 2 l (rw z at e) in
-    let p = picked (eqb (length (c .rest)) 0) _ f (c .on) in
+    let p = pick-parsed (eqb (length (c .rest)) 0) _ f (c .on) in
     let x = listed-forth f (extensionsOf (c .part)) _ (p .1) in
     let w : l ≡ vector16 (c .part) =
     wide f _ l 2 c refl h ∙ ap (λ (r : List ℕ). vector16 (c .part) ++ r) (empty (c .rest) (p .0)) ∙ append-nil (vector16 (c .part)) in

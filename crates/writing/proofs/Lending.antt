@@ -5,13 +5,13 @@ use mathlib.Core.Bool.{true}
 use mathlib.Core.List.{List, [], _∷_}
 use Prim.Native.Nat.{ℕ, suc}
 use native.Mathlib.Omega.{arith}
-use lib.Dec.{eqb}
 use lib.ListN.{length, drop, length-append, length-drop, take-append-drop}
 use lib.Seq.{take-append-seam, drop-append-seam, length-take-le}
-use borrow.Author.Tests.{eq-eqb, eqb-true}
-use Rattle.seqs.specs.Cases.{and-left, and-right}
-use Rattle.hello.specs.Extensions.{Extension}
+use borrow.Author.Tests.{eq-eqb}
+use Rattle.hello.specs.Extensions.{Extension, has, twice}
 use Rattle.writing.specs.Lists.{total, fitting, extensionsFrom, typesOf, lengthsOf, dataOf}
+use Rattle.writing.specs.Steps.{among, repeats}
+use Rattle.writing.proofs.Walking.{fitting-counts, fitting-sums}
 
 -- what is lent for a list stands for that list
 pub from-lent : (es : List Extension) → extensionsFrom (typesOf es) (lengthsOf es) (dataOf es) ≡ es
@@ -58,19 +58,27 @@ data-from (t ∷ ts) [] d h k = absurd (omega arith)
 data-from (t ∷ ts) (n ∷ ns) d h k = rw (data-from ts ns (drop n d) (omega arith) (rw length-drop (omega arith))) (take-append-drop n d)
 
 module _ (ts ns d : List ℕ) (fits : fitting ts ns d ≡ true) where
-  count-fits : length ts ≡ length ns
-  unfolding fitting
-  count-fits = eqb-true _ _ (and-left _ (eqb (total ns) (length d)) fits)
-
-  total-fits : total ns ≡ length d
-  unfolding fitting
-  total-fits = eqb-true _ _ (and-right (eqb (length ts) (length ns)) _ fits)
-
   pub types-back : typesOf (extensionsFrom ts ns d) ≡ ts
-  types-back = types-from ts ns d count-fits
+  types-back = types-from ts ns d (fitting-counts ts ns d fits)
 
   pub lengths-back : lengthsOf (extensionsFrom ts ns d) ≡ ns
-  lengths-back = lengths-from ts ns d count-fits total-fits
+  lengths-back = lengths-from ts ns d (fitting-counts ts ns d fits) (fitting-sums ts ns d fits)
 
   pub data-back : dataOf (extensionsFrom ts ns d) ≡ d
-  data-back = data-from ts ns d count-fits total-fits
+  data-back = data-from ts ns d (fitting-counts ts ns d fits) (fitting-sums ts ns d fits)
+
+-- what is asked of the types alone
+pub types-count : (es : List Extension) → length (typesOf es) ≡ length es
+unfolding typesOf
+types-count [] = refl
+types-count (e ∷ es) = ap suc (types-count es)
+
+has-among : (t : ℕ) (es : List Extension) → has t es ≡ among t (typesOf es)
+unfolding has among typesOf
+has-among t [] = refl
+has-among t (e ∷ es) = rw (has-among t es)
+
+pub twice-repeats : (es : List Extension) → twice es ≡ repeats (typesOf es)
+unfolding twice repeats typesOf
+twice-repeats [] = refl
+twice-repeats (e ∷ es) = rw (has-among (e .kind) es, twice-repeats es)

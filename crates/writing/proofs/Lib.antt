@@ -3,9 +3,9 @@ pub mod Walking
 pub mod Listed
 pub mod Sizing
 pub mod Numbers
+pub mod Lending
 pub mod Writers
 pub mod Hellos
-pub mod Lending
 pub mod Back
 pub mod Forth
 pub mod Again

@@ -2,6 +2,7 @@
 -- Assumes nothing.
 use mathlib.Core.Path.{_≡_, sym}
 use mathlib.Core.Bool.{Bool, true, false, not, _||_}
+use mathlib.Core.List.{List, [], _∷_}
 use Prim.Native.Nat.{ℕ, _+_, _*_, _%_, _≤_, _<_}
 use native.Mathlib.Nat.{add-zero}
 use native.Mathlib.Omega.{arith}
@@ -9,6 +10,19 @@ use lib.Dec.{leb, ltb, eqb}
 use borrow.Author.Tests.{lt-ltb, le-ltb, eq-eqb, ne-eqb, leb-true, leb-false, ltb-false, eqb-true, not-false}
 use Rattle.seqs.specs.Cases.{by-test, or-left, or-right}
 use Rattle.writing.specs.Steps.{blockSize, sizeOr, listOutside, opensOutside, listsOutside}
+
+-- tests one after the other of which none holds
+abbrev pub anyOf : Bool → List Bool → Bool
+anyOf a [] = a
+anyOf a (t ∷ ts) = anyOf (a || t) ts
+
+abbrev pub None : List Bool → Type 0
+None [] = Unit {0}
+None (t ∷ ts) = (t ≡ false) × None ts
+
+pub none-of : (a : Bool) (ts : List Bool) → anyOf a ts ≡ false → (a ≡ false) × None ts
+none-of a [] h = (h, tt)
+none-of a (t ∷ ts) h = let r = none-of (a || t) ts h in (or-left a t (r .0), (or-right a t (r .0), r .1))
 
 not-leb : (a b : ℕ) → not (leb a b) ≡ ltb b a
 not-leb a b =
@@ -27,7 +41,9 @@ module _ (r i : ℕ) where
 
   pub opens-bound : opensOutside r i ≡ false → (r ≡ 32) × (i ≤ 32)
   unfolding opensOutside
-  opens-bound h = (eqb-true r 32 (not-false _ (or-left _ _ h)), ltb-false 32 i (or-right (not (eqb r 32)) _ h))
+  opens-bound h =
+      let n = none-of (not (eqb r 32)) (ltb 32 i ∷ []) h in
+      (eqb-true r 32 (not-false _ (n .0)), ltb-false 32 i (n .1 .0))
 
 module _ (s m : ℕ) where
   pub offers-few : s < 2 → true ≡ listsOutside s m
@@ -53,12 +69,8 @@ module _ (s m : ℕ) where
   pub offers-bound : listsOutside s m ≡ false → (s ≤ 65534) × (m ≤ 255)
   unfolding listsOutside
   offers-bound h =
-      let a = ltb s 2 in
-      let b = a || ltb 65534 s in
-      let c = b || not (eqb (s % 2) 0) in
-      let d = c || ltb m 1 in
-      let p : c ≡ false = or-left c (ltb m 1) (or-left d (ltb 255 m) h) in
-      (ltb-false 65534 s (or-right a (ltb 65534 s) (or-left b (not (eqb (s % 2) 0)) p)), ltb-false 255 m (or-right d (ltb 255 m) h))
+      let n = none-of (ltb s 2) (ltb 65534 s ∷ not (eqb (s % 2) 0) ∷ ltb m 1 ∷ ltb 255 m ∷ []) h in
+      (ltb-false 65534 s (n .1 .0), ltb-false 255 m (n .1 .1 .1 .1 .0))
 
 pub within-not : (n : ℕ) → 16388 < n → 0 ≡ sizeOr (ltb 16388 n) n
 within-not n h = rw (lt-ltb 16388 n h)

@@ -14,34 +14,16 @@ use Rattle.refusal.specs.First.{firstOf}
 use Rattle.refusal.specs.Table.{refusalOf}
 use Rattle.refusal.proofs.First.{first-zero}
 use Rattle.message.specs.Frame.{overlong}
-use Rattle.hello.specs.Extensions.{has, twice}
+use Rattle.hello.specs.Extensions.{twice}
 use Rattle.hello.specs.Fields.{Hello}
 use Rattle.hello.specs.Written.{writtenBlock}
 use Rattle.writing.specs.Lists.{fitting, extensionsFrom, misshapen}
 use Rattle.writing.specs.Promise.{unblocked, writeNumber, Writes}
-use Rattle.writing.specs.Steps.{among, repeats, blockSize, sizeOr, listOutside, judged}
+use Rattle.writing.specs.Steps.{repeats, blockSize, sizeOr, listOutside, judged}
 use Rattle.writing.specs.declared.judging.Written.{Written}
 use Rattle.writing.proofs.Walking.{fitting-counts, fitting-sums}
 use Rattle.writing.proofs.Listed.{written-long}
-
--- the types of the lent list are those of its extensions
-has-among : (t : ℕ) (ts ns d : List ℕ) → length ts ≡ length ns → has t (extensionsFrom ts ns d) ≡ among t ts
-unfolding has among extensionsFrom
-has-among t [] ns d h = refl
-has-among t (u ∷ us) [] d h = absurd (omega arith)
-has-among t (u ∷ us) (n ∷ ns) d h = rw (has-among t us ns (drop n d) (omega arith))
-
-twice-repeats : (ts ns d : List ℕ) → length ts ≡ length ns → twice (extensionsFrom ts ns d) ≡ repeats ts
-unfolding twice repeats extensionsFrom
-twice-repeats [] ns d h = refl
-twice-repeats (t ∷ ts) [] d h = absurd (omega arith)
-twice-repeats (t ∷ ts) (n ∷ ns) d h = rw (has-among t ts ns (drop n d) (omega arith), twice-repeats ts ns (drop n d) (omega arith))
-
-count-from : (ts ns d : List ℕ) → length ts ≡ length ns → length (extensionsFrom ts ns d) ≡ length ts
-unfolding extensionsFrom
-count-from [] ns d h = refl
-count-from (t ∷ ts) [] d h = absurd (omega arith)
-count-from (t ∷ ts) (n ∷ ns) d h = let e = count-from ts ns (drop n d) (omega arith) in omega arith
+use Rattle.writing.proofs.Lending.{types-back, types-count, twice-repeats}
 
 -- how many bytes an extension block has
 pub closing-long : (b : Bool) (ts ns d : List ℕ) → fitting ts ns d ≡ true
@@ -79,9 +61,12 @@ module _ (outside : Hello → Bool) (bytes : Hello → List ℕ) (wrong : ℕ �
     pub some : front ≡ 0 → ⊥
 
   module _ (k : Counts) where
-    blocked : length ts ≡ length ns → unblocked f ≡ (not (f .block) && not (eqb (length ts) 0))
+    count-from : fitting ts ns d ≡ true → length (extensionsFrom ts ns d) ≡ length ts
+    count-from q = sym (types-count _) ∙ ap length (types-back ts ns d q)
+
+    blocked : fitting ts ns d ≡ true → unblocked f ≡ (not (f .block) && not (eqb (length ts) 0))
     unfolding unblocked
-    blocked c = rw (k .list, count-from ts ns d c)
+    blocked q = rw (k .list, count-from q)
 
     over : length (bytes f) ≡ sized → overlong (bytes f) ≡ ltb 16388 sized
     unfolding overlong
@@ -93,11 +78,11 @@ module _ (outside : Hello → Bool) (bytes : Hello → List ℕ) (wrong : ℕ �
     unfolding writeNumber listOutside
     fitted out p q =
         let e : outside f ≡ false = sym (k .fields) ∙ p in
-        let c = fitting-counts ts ns d q in
-        let u : unblocked f ≡ (not (f .block) && not (eqb (length ts) 0)) = blocked c in
+        let t : twice (extensionsFrom ts ns d) ≡ repeats ts = twice-repeats _ ∙ ap repeats (types-back ts ns d q) in
+        let u : unblocked f ≡ (not (f .block) && not (eqb (length ts) 0)) = blocked q in
         let v : overlong (bytes f) ≡ ltb 16388 sized = over (k .long q p) in
         let s : ltb (length out) (length (bytes f)) ≡ ltb (length out) sized = ap (ltb (length out)) (k .long q p) in
-        rw (p, q, e, u, v, s, k .list, twice-repeats ts ns d c) (tests-join false _ _ _ _ _ sized (length out) (λ z. k .some (omega arith)))
+        rw (p, q, e, u, v, s, k .list, t) (tests-join false _ _ _ _ _ sized (length out) (λ z. k .some (omega arith)))
 
     number-is : (out : List ℕ)
         → judged found (misshapen (extensionsFrom ts ns d)) (repeats ts) (wrong (f .version)) (length out)
