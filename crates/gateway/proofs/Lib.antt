@@ -1,3 +1,4 @@
 pub mod Readings
 pub mod Completing
 pub mod Cases
+pub mod Rewriting

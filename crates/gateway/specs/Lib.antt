@@ -2,3 +2,4 @@ pub mod Hellos
 pub mod Readings
 pub mod Completion
 pub mod Cases
+pub mod Rewriting
