@@ -1,24 +1,20 @@
 -- The extension at a place, and that asking again and again hands out a list that was read.
 -- Assumes nothing.
 use mathlib.Core.Path.{_≡_, refl, sym, _∙_, ap}
-use mathlib.Core.Bool.{Bool, true, false, not}
-use mathlib.Core.List.{List, [], _∷_}
+use mathlib.Core.Bool.{true}
+use mathlib.Core.List.{List}
 use Prim.Native.Nat.{ℕ, zero, suc, _+_, _-_, _≤_, _<_}
 use native.Mathlib.Omega.{arith}
 use lib.Dec.{leb}
-use lib.ListN.{length, take, drop, length-drop}
+use lib.ListN.{length, drop, length-drop}
 use lib.Seq.{take-all}
 use borrow.Author.Tests.{le-leb, lt-leb, leb-true, leb-false}
 use Rattle.seqs.specs.Cases.{by-test}
 use Rattle.message.specs.Numbers.{pairAt}
-use Rattle.hello.specs.Layout.{Parse, malformed, parsed}
-use Rattle.hello.specs.Extensions.{Extension, listOf, extensionsOf}
-use Rattle.hello.specs.Fields.{isMalformed}
-use Rattle.hello.specs.Places.{part, behind, bytesAt, Points}
-use Rattle.hello.specs.Cuts.{parsedAt, wellFormedAt, listIn, listAt}
-use Rattle.hello.specs.Learnt.{ExtensionsLearnt}
+use Rattle.hello.specs.Layout.{parsed}
+use Rattle.hello.specs.Extensions.{Extension, extensionsOf}
+use Rattle.hello.specs.Cuts.{parsedAt, wellFormedAt, listAt}
 use Rattle.hello.specs.Next.{noNext, nextOf, nextAt, HandsOut, ListHandedOut}
-use Rattle.hello.specs.declared.next.Next.{Next}
 use Rattle.hello.proofs.Lists.{fuel, step, list-end}
 
 module _ (m : List ℕ) (at : ℕ) where

@@ -1,19 +1,15 @@
 -- The questions that walks ask of a list of extensions, one extension at a time.
 -- Assumes nothing.
-use mathlib.Core.Path.{_≡_, sym, _∙_, ap}
+use mathlib.Core.Path.{_≡_}
 use mathlib.Core.Bool.{true, false}
-use mathlib.Core.List.{List, [], _∷_}
-use Prim.Native.Nat.{ℕ, zero, suc, _+_, _≤_}
-use native.Mathlib.Nat.{add-zero}
-use native.Mathlib.Omega.{arith}
+use mathlib.Core.List.{List, _∷_}
+use Prim.Native.Nat.{ℕ, _+_}
 use lib.Dec.{eqb}
-use lib.ListN.{length, take, drop, length-drop}
-use lib.Seq.{length-take-le}
+use lib.ListN.{length}
 use borrow.Author.Tests.{eq-eqb, ne-eqb}
 use Rattle.message.specs.Numbers.{byteAt}
 use Rattle.hello.specs.Extensions.{Extension, emsKind, riKind, shaped, knownKind, has, twice, othersOf}
 use Rattle.hello.specs.Places.{part, partOf}
-use Rattle.hello.proofs.Vectors.{byte-drop}
 
 -- the shape of an extension's data
 module _ (t : ℕ) (d : List ℕ) where

@@ -1,4 +1,5 @@
-// Writing to a place of a lent buffer. Each function answers the place behind what it wrote.
+// Writing to a place of a lent buffer. Each function answers the place behind what it wrote, but for the extension block, which ends a
+// message, and its list.
 ghost use mathlib.Core.Path.{_≡_};
 ghost use mathlib.Core.Bool.{true};
 ghost use mathlib.Core.List.{[], _∷_, _++_};

@@ -1,6 +1,5 @@
 -- The shape of an extension's data.
 -- Assumes nothing.
-use native.Mathlib.Omega.{arith}
 use Rattle.hello.proofs.Walks.{shape-ems, shape-ri, shape-other}
 use borrow.Author.Needs.{needs}
 use Rattle.hello.proofs.walk.well_shaped.Statement.{statement}
