@@ -5,7 +5,7 @@ use mathlib.Core.Bool.{Bool, true, false}
 use mathlib.Core.List.{List}
 use Prim.Native.Nat.{ℕ}
 use Rattle.seqs.specs.Flag.{yes, bit}
-use Rattle.hello.proofs.Handed.{handed}
+use Rattle.hello.proofs.Handed.{handed, handed-once}
 use Rattle.writing.specs.Promise.{WritesClient, WritesServer}
 use Rattle.writing.specs.declared.judging.Written.{Written}
 use Rattle.writing.proofs.RoundTrip.{client-call-writes, server-call-writes}
@@ -36,9 +36,10 @@ client-again m r h e z =
       extensions = l .hello .extensions;
       handed = handed m _ _ _ x;
       written =
-          λ out out′ w p.
+          λ es q out out′ w p.
+          let g : es ≡ l .hello .extensions = handed-once m _ es (l .hello .extensions) q (handed m _ _ _ x) in
           client-call-writes m (l .hello) h (l .reading) .1 out out′ w
-          (same-client _ _ _ out out′ w (l .version) (l .random .is) (l .identifier .is) (l .suites .is) (l .methods .is) (flag-back (l .hello .block) (x .block)) p);
+          (same-client _ _ _ out out′ w (l .version) (l .random .is) (l .identifier .is) (l .suites .is) (l .methods .is) (flag-back (l .hello .block) (x .block)) (rw g at p));
     }
 
 pub server-again : ServerAgain
@@ -49,7 +50,8 @@ server-again m r h e z =
       extensions = l .hello .extensions;
       handed = handed m _ _ _ x;
       written =
-          λ out out′ w p.
+          λ es q out out′ w p.
+          let g : es ≡ l .hello .extensions = handed-once m _ es (l .hello .extensions) q (handed m _ _ _ x) in
           server-call-writes m (l .hello) h (l .reading) .1 out out′ w
-          (same-server _ _ _ out out′ w (l .version) (l .random .is) (l .identifier .is) (l .suite) (l .compression) (flag-back (l .hello .block) (x .block)) p);
+          (same-server _ _ _ out out′ w (l .version) (l .random .is) (l .identifier .is) (l .suite) (l .compression) (flag-back (l .hello .block) (x .block)) (rw g at p));
     }

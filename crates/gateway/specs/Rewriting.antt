@@ -18,12 +18,12 @@ use Rattle.gateway.specs.Hellos.{clientReading, serverReading}
 use Rattle.gateway.specs.declared.hellos.ClientReading.{ClientReading}
 use Rattle.gateway.specs.declared.hellos.ServerReading.{ServerReading}
 
--- what axle_next_extension hands out from place at of m on, lent to a writer, gives m again
+-- axle_next_extension hands out some list from place at of m on; and whatever it handed out, lent to a writer, gives m again
 pub record Again (m : List ℕ) (at : ℕ) (Writing : List ℕ → List ℕ → List ℕ → List ℕ → List ℕ → Written → Type 0) : Type 0 where
   pub extensions : List Extension
   pub handed : HandsOut m at extensions
-  pub written : (out out′ : List ℕ) (w : Written)
-      → Writing (typesOf extensions) (lengthsOf extensions) (dataOf extensions) out out′ w → Rewrites m out out′ w
+  pub written : (es : List Extension) → HandsOut m at es → (out out′ : List ℕ) (w : Written)
+      → Writing (typesOf es) (lengthsOf es) (dataOf es) out out′ w → Rewrites m out out′ w
 
 -- axle_read_client_hello, axle_next_extension, axle_write_client_hello
 abbrev pub ClientAgain : Type 0

@@ -1,8 +1,8 @@
 -- The extension at a place, and that asking again and again hands out a list that was read.
 -- Assumes nothing.
-use mathlib.Core.Path.{_≡_, refl, sym, _∙_, ap}
+use mathlib.Core.Path.{_≡_, refl, sym, _∙_, ap, ap₂}
 use mathlib.Core.Bool.{true}
-use mathlib.Core.List.{List}
+use mathlib.Core.List.{List, [], _∷_}
 use Prim.Native.Nat.{ℕ, zero, suc, _+_, _-_, _≤_, _<_}
 use native.Mathlib.Omega.{arith}
 use lib.Dec.{leb}
@@ -14,7 +14,8 @@ use Rattle.message.specs.Numbers.{pairAt}
 use Rattle.hello.specs.Layout.{parsed}
 use Rattle.hello.specs.Extensions.{Extension, extensionsOf}
 use Rattle.hello.specs.Cuts.{parsedAt, wellFormedAt, listAt}
-use Rattle.hello.specs.Next.{noNext, nextOf, nextAt, HandsOut, ListHandedOut}
+use Rattle.hello.specs.Next.{noNext, nextOf, nextAt, HandsOut, ListHandedOut, HandedOnce}
+use Rattle.hello.specs.declared.next.Next.{Next}
 use Rattle.hello.proofs.Lists.{fuel, step, list-end}
 
 module _ (m : List ℕ) (at : ℕ) where
@@ -59,3 +60,11 @@ handed m x b es l =
     let n : length (drop i m) ≤ x .list .length = rw length-drop (omega (arith, l .ends)) in
     let e : extensionsOf (drop i m) ≡ parsed es = ap extensionsOf (sym (take-all (x .list .length) (drop i m) n)) ∙ l .list in
     rw (← list-is m i es e) (handed-from m (length m) i (omega (arith, l .ends)) (omega arith) (formed m i es e))
+
+pub handed-once : HandedOnce
+handed-once m at [] [] h k = refl
+handed-once m at [] (f ∷ fs) h k = absurd (omega (arith, k .0, ap (λ (n : Next). n .found) h))
+handed-once m at (e ∷ es) [] h k = absurd (omega (arith, h .0, ap (λ (n : Next). n .found) k))
+handed-once m at (e ∷ es) (f ∷ fs) h k =
+    let x : e ≡ f = ap₂ (λ (t : ℕ) (d : List ℕ). record { kind = t; content = d }) (sym (h .1) ∙ k .1) (sym (h .2 .is) ∙ k .2 .is) in
+    ap₂ (λ (y : Extension) (ys : List Extension). y ∷ ys) x (handed-once m (nextAt m at .next) es fs (h .3) (k .3))

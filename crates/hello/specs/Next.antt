@@ -36,3 +36,7 @@ HandsOut m at (e ∷ es) =
 -- proofs/Handed.antt.
 abbrev pub ListHandedOut : Type 0
 ListHandedOut = (m : List ℕ) (x : Extensions) (b : Bool) (es : List Extension) → ExtensionsLearnt m x b es → HandsOut m (x .list .at) es
+
+-- and no other one: whatever was handed out from a place on is one list. Proved as `handed-once`.
+abbrev pub HandedOnce : Type 0
+HandedOnce = (m : List ℕ) (at : ℕ) (es es′ : List Extension) → HandsOut m at es → HandsOut m at es′ → es ≡ es′

@@ -88,7 +88,7 @@ returns-2 c =
     let f = clientOf (a .version) (a .random .now) (a .identifier .now) (a .suites .now) (a .methods .now) (a .block) (a .types .now) (a .lengths .now) (a .«data» .now) in
     let n = number-of _ _ _ _ (a .types .now) (a .lengths .now) (a .«data» .now) _ _ (client-counts (a .version) (a .random .now) (a .identifier .now) (a .suites .now) (a .methods .now) (a .block) (a .types .now) (a .lengths .now) (a .«data» .now)) (z .client-size .ensures) (a .out .now) (j .judge .ensures) in
     writes _ (clientBytes f) (a .out .now) (sym n ∙ y .if1 .left) (q .written)
-    (message-placed f 1 (vector16 (a .suites .now)) (vector8 (a .methods .now)) (a .out .now) (z .client-size .result) (o .put-opening .result) (p .put-vector16 .result) (x .put-vector8 .result) (q .written) (q .space) (o .put-opening .ensures .0) (omega (arith, p .put-vector16 .ensures .0)) (omega (arith, x .put-vector8 .ensures .0)) (o .put-opening .ensures .1) (p .put-vector16 .ensures .1) (x .put-vector8 .ensures .1) (b .put-block .ensures))
+    (message-placed f _ (vector16 (a .suites .now)) (vector8 (a .methods .now)) (a .out .now) (z .client-size .result) (o .put-opening .result) (p .put-vector16 .result) (x .put-vector8 .result) (q .written) (q .space) (o .put-opening .ensures .0) (omega (arith, p .put-vector16 .ensures .0)) (omega (arith, x .put-vector8 .ensures .0)) (o .put-opening .ensures .1) (p .put-vector16 .ensures .1) (x .put-vector8 .ensures .1) (b .put-block .ensures))
     (c .answer2 .ensures)
 
 pub write-client-hello-spec : {M : Type 1} → statement M

@@ -91,7 +91,7 @@ returns-2 c =
     let f = serverOf (a .version) (a .random .now) (a .identifier .now) (a .suite) (a .compression) (a .block) (a .types .now) (a .lengths .now) (a .«data» .now) in
     let n = number-of _ _ _ _ (a .types .now) (a .lengths .now) (a .«data» .now) _ _ (server-counts (a .version) (a .random .now) (a .identifier .now) (a .suite) (a .compression) (a .block) (a .types .now) (a .lengths .now) (a .«data» .now)) (z .server-size .ensures) (a .out .now) (j .judge .ensures) in
     writes _ (serverBytes f) (a .out .now) (sym n ∙ y .if1 .left) (q .written)
-    (message-placed f 2 (twoBytes (a .suite)) (a .compression ∷ []) (a .out .now) (z .server-size .result) (o .put-opening .result) (p .put-pair .result) (x .put-byte .result) (q .written) (q .space) (o .put-opening .ensures .0) (p .put-pair .ensures .0) (x .put-byte .ensures .0) (o .put-opening .ensures .1) (p .put-pair .ensures .1) (x .put-byte .ensures .1) (b .put-block .ensures))
+    (message-placed f _ (twoBytes (a .suite)) (a .compression ∷ []) (a .out .now) (z .server-size .result) (o .put-opening .result) (p .put-pair .result) (x .put-byte .result) (q .written) (q .space) (o .put-opening .ensures .0) (p .put-pair .ensures .0) (x .put-byte .ensures .0) (o .put-opening .ensures .1) (p .put-pair .ensures .1) (x .put-byte .ensures .1) (b .put-block .ensures))
     (c .answer2 .ensures)
 
 pub write-server-hello-spec : {M : Type 1} → statement M
