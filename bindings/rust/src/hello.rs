@@ -123,7 +123,7 @@ fn extensions(message: &[u8], raw: ffi::Extensions) -> Extensions<'_> {
 /// Reads one whole ClientHello message, header included: its fields, or the first fault.
 ///
 /// What it costs at most: every pair of extension types is compared. A hello of 16,388 bytes with 4,085 extensions takes 22 to
-/// 30 ms, so some 35 of them a second fill a core. Only the caller can bound that, by the length that an axle may send before
+/// 30 ms, so 33 to 45 of them a second fill a core. Only the caller can bound that, by the length that an axle may send before
 /// it is known: 1.8 ms at 4,096 bytes, 0.5 ms at 2,048.
 pub fn read_client_hello(message: &[u8]) -> Result<ClientHello<'_>> {
     // SAFETY: the slice is good for its length and only read.
