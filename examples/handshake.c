@@ -81,7 +81,7 @@ static void accept(AxleLog *log, const uint8_t *bytes, size_t length, uint8_t re
     done(axle_log_accept_in(log, bytes, length, resumes), "a message");
 }
 
-/* Both Finished, as each is due: its value is asked for, checked as the peer would, and taken. */
+/* Both Finished, as each is due: its value is asked for, and the message is checked and taken as by the peer. */
 static void finish(AxleLog *log, const uint8_t *secret)
 {
     for (int i = 0; i < 2; i++) {
@@ -89,8 +89,7 @@ static void finish(AxleLog *log, const uint8_t *secret)
         AxleExpected expected = axle_log_expected_finished(*log, secret, AXLE_SECRET_SIZE);
         done(expected.refusal, "a Finished value");
         message(bytes, FINISHED, expected.value, sizeof expected.value);
-        done(axle_log_check_finished_in(log, secret, AXLE_SECRET_SIZE, bytes, sizeof bytes), "the check of a Finished");
-        accept(log, bytes, sizeof bytes, 0);
+        done(axle_log_finish_in(log, secret, AXLE_SECRET_SIZE, bytes, sizeof bytes), "a Finished");
     }
 }
 

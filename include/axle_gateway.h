@@ -47,10 +47,10 @@ extern "C" {
 /* The first number is 0 for as long as a struct or a call may change from one minor version to the next; a patch changes
  * neither. So the shared library's soname has the first two. tools/build reads the numbers here. */
 #define AXLE_GATEWAY_VERSION_MAJOR 0
-#define AXLE_GATEWAY_VERSION_MINOR 3
+#define AXLE_GATEWAY_VERSION_MINOR 4
 #define AXLE_GATEWAY_VERSION_PATCH 0
-#define AXLE_GATEWAY_VERSION "0.3.0"
-/* for #if: 300 is 0.3.0, 10203 is 1.2.3 */
+#define AXLE_GATEWAY_VERSION "0.4.0"
+/* for #if: 400 is 0.4.0, 10203 is 1.2.3 */
 #define AXLE_GATEWAY_VERSION_NUMBER \
     (AXLE_GATEWAY_VERSION_MAJOR * 10000 + AXLE_GATEWAY_VERSION_MINOR * 100 + AXLE_GATEWAY_VERSION_PATCH)
 
@@ -448,21 +448,14 @@ typedef struct {
     AxleHash hash;
     uint8_t place;
     uint8_t session[32];
-    uint8_t checked;
-    uint8_t value[12];
     uint8_t client[12];
     uint8_t server[12];
 } AxleLog;
 
 typedef struct {
-    AxleRefusal refusal; /* 0, 1, 7 or 10 */
+    AxleRefusal refusal; /* 0, 1, 7 or 10; of axle_log_finish 8 besides */
     AxleLog log;         /* the next state; refused: the one passed */
 } AxleAccepted;
-
-typedef struct {
-    AxleRefusal refusal; /* 0, 1, 7, 8 or 10 */
-    AxleLog log;         /* the next state; refused: the one passed */
-} AxleChecked;
 
 typedef struct {
     AxleRefusal refusal; /* 0 or 7 */
@@ -478,8 +471,8 @@ typedef struct {
 AxleLog axle_log_fresh(void);
 
 /* Accepts the next handshake message, header included, or refuses it: 10 over 16,388 bytes, 1 malformed, 7 out of turn.
- * `resumes` tells, with a ServerHello, whether it resumes; with other messages it is of no account. A Finished is accepted
- * only where its bytes were the last ones that axle_log_check_finished found equal. */
+ * `resumes` tells, with a ServerHello, whether it resumes; with other messages it is of no account. A Finished of 12 bytes is
+ * 7 here, due or not: axle_log_finish takes it. */
 AxleAccepted axle_log_accept(AxleLog log, const uint8_t *message, size_t length, uint8_t resumes);
 
 /* The same, on a log in place. */
@@ -493,16 +486,21 @@ static inline AxleRefusal axle_log_accept_in(AxleLog *log, const uint8_t *messag
 /* The session hash of RFC 7627: over ClientHello through ClientKeyExchange. 7 before that, and in a resumed handshake. */
 AxleSessionHash axle_log_session_hash(AxleLog log);
 
-/* Is `message` the Finished that is due under this 48-byte master secret? 10, 1, 7, or 8 where its value differs. Done, the
- * log remembers it, until its next accepted message. The values are compared without an early exit. */
-AxleChecked axle_log_check_finished(AxleLog log, const uint8_t *secret, size_t secret_length, const uint8_t *message,
-                                    size_t message_length);
+/* Checks a Finished against this 48-byte master secret and takes it: the log has then accepted it. Refused, with the log as it
+ * was, by the first of these that applies:
+ *   10  secret not of 48 bytes; message over 16,388
+ *    1  malformed; the body of a Finished has 12 bytes
+ *    7  another type than Finished, in turn or not; no Finished due
+ *    8  its value differs
+ * The values are compared without an early exit. */
+AxleAccepted axle_log_finish(AxleLog log, const uint8_t *secret, size_t secret_length, const uint8_t *message,
+                             size_t message_length);
 
 /* The same, on a log in place. */
-static inline AxleRefusal axle_log_check_finished_in(AxleLog *log, const uint8_t *secret, size_t secret_length,
-                                                     const uint8_t *message, size_t message_length)
+static inline AxleRefusal axle_log_finish_in(AxleLog *log, const uint8_t *secret, size_t secret_length, const uint8_t *message,
+                                             size_t message_length)
 {
-    AxleChecked answer = axle_log_check_finished(*log, secret, secret_length, message, message_length);
+    AxleAccepted answer = axle_log_finish(*log, secret, secret_length, message, message_length);
     *log = answer.log;
     return answer.refusal;
 }
@@ -546,11 +544,11 @@ enum {
     AXLE_STACK_DECIDE_SERVER = 8880,
     AXLE_STACK_DECIDE_CLIENT = 736,
     AXLE_STACK_LOG_FRESH = 8,
-    AXLE_STACK_LOG_ACCEPT = 1264,
+    AXLE_STACK_LOG_ACCEPT = 1168,
     AXLE_STACK_LOG_SESSION_HASH = 224,
-    AXLE_STACK_LOG_CHECK_FINISHED = 1968,
+    AXLE_STACK_LOG_FINISH = 1840,
     AXLE_STACK_LOG_EXPECTED_FINISHED = 1440,
-    AXLE_STACK_COMPLETE = 264
+    AXLE_STACK_COMPLETE = 248
 };
 
 #ifdef __cplusplus

@@ -1,4 +1,4 @@
-"""Document 01, 'The message log'."""
+"""Document 01, 'The message log', and order 6 of document 02, 'Join the Finished check and the taking'."""
 
 import hashlib
 import re
@@ -34,7 +34,6 @@ class Log:
         self.hashed = b""
         self.resumed = False
         self.session = None
-        self.checked = None
         self.values = {}
 
     def _due(self):
@@ -62,26 +61,20 @@ class Log:
             return fault
         kind = message[0]
         if kind == 0:
-            self.checked = None
             return 0
-        if kind == 20:
-            side = self._due()
-            if side is None or self.checked != message:
-                return 7
-            self.values[side] = message[4:]
-            letter = side
-        else:
-            letter = LETTER.get(kind)
-            if letter is None or not in_order(self.word + letter, self.resumed):
-                return 7
-            if kind == 2:
-                self.resumed = resumes
-        self.word += letter
-        self.hashed += message
-        self.checked = None
+        letter = LETTER.get(kind)  # a Finished has none: it is for `finish`
+        if letter is None or not in_order(self.word + letter, self.resumed):
+            return 7
+        if kind == 2:
+            self.resumed = resumes
+        self._take(letter, message)
         if kind == 16:
             self.session = hashlib.sha256(self.hashed).digest()
         return 0
+
+    def _take(self, letter, message):
+        self.word += letter
+        self.hashed += message
 
     def session_hash(self):
         """(number, hash)"""
@@ -99,7 +92,7 @@ class Log:
             return 7, bytes(12)
         return 0, self._value(secret, side)
 
-    def check_finished(self, secret, message):
+    def finish(self, secret, message):
         """number"""
         if len(secret) != 48:
             return 10
@@ -111,7 +104,8 @@ class Log:
             return 7
         if message[4:] != self._value(secret, side):
             return 8
-        self.checked = message
+        self.values[side] = message[4:]
+        self._take(side, message)
         return 0
 
     @property

@@ -1,4 +1,4 @@
-"""Document 01, program `loglist`."""
+"""Document 01, program `loglist`; a Finished by order 6 of document 02."""
 
 import sys
 
@@ -7,6 +7,7 @@ from .book import Book
 from .log import Log
 
 LIMIT = 32_768
+SECRET = bytes(48)  # a case has none
 
 
 def contents(case):
@@ -28,6 +29,11 @@ def contents(case):
     return bodies
 
 
+def fed(log, body):
+    """number"""
+    return log.finish(SECRET, body) if body[:1] == b"\x14" else log.accept(body)
+
+
 def loglist(case):
     lines = ["message type log hello"]
     bodies = contents(case)
@@ -36,7 +42,7 @@ def loglist(case):
         bodies = []
     log, table = Log(), Book()
     for i, body in enumerate(bodies, 1):
-        number = log.accept(body)
+        number = fed(log, body)
         hello = "-"
         if number == 0 and body[0] == 1:
             made, _, _ = decision.server(body, 1, table.known, decision.Connection(), decision.Switches(), bytes(64))

@@ -220,18 +220,12 @@ class Log(c.Structure):
         ("hash", Hash),
         ("place", u8),
         ("session", u8 * 32),
-        ("checked", u8),
-        ("value", u8 * 12),
         ("client", u8 * 12),
         ("server", u8 * 12),
     ]
 
 
 class Accepted(c.Structure):
-    _fields_ = [("refusal", Refusal), ("log", Log)]
-
-
-class Checked(c.Structure):
     _fields_ = [("refusal", Refusal), ("log", Log)]
 
 
@@ -247,7 +241,7 @@ sizeof_log = c.sizeof(Log)
 log_fresh = declare("axle_log_fresh", Log)
 log_accept = declare("axle_log_accept", Accepted, Log, BYTES, u8)
 log_session_hash = declare("axle_log_session_hash", SessionHash, Log)
-log_check_finished = declare("axle_log_check_finished", Checked, Log, BYTES, BYTES)
+log_finish = declare("axle_log_finish", Accepted, Log, BYTES, BYTES)
 log_expected_finished = declare("axle_log_expected_finished", Expected, Log, BYTES)
 
 

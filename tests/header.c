@@ -55,8 +55,8 @@ static size_t hello(uint8_t *to, uint8_t type, const uint8_t *rest, size_t lengt
 
 /* ---- Version and sizes ------------------------------------------------------------------------------------------- */
 
-#if AXLE_GATEWAY_VERSION_NUMBER < 300
-#error "older than 0.3.0"
+#if AXLE_GATEWAY_VERSION_NUMBER < 400
+#error "older than 0.4.0"
 #endif
 
 static void versions(void)
@@ -82,6 +82,9 @@ static void sizes(void)
     bytes[0] = CLIENT_HELLO, bytes[2] = (AXLE_MESSAGE_MAX - 4) >> 8, bytes[3] = (AXLE_MESSAGE_MAX - 4) & 255;
     IS(axle_log_accept(axle_log_fresh(), bytes, AXLE_MESSAGE_MAX, 0).refusal.number == AXLE_DONE);
     IS(axle_log_accept(axle_log_fresh(), bytes, AXLE_MESSAGE_MAX + 1, 0).refusal.number == AXLE_LENGTH);
+    IS(axle_log_finish(axle_log_fresh(), secret, AXLE_SECRET_SIZE, bytes, AXLE_MESSAGE_MAX).refusal.number == AXLE_OUT_OF_TURN);
+    IS(axle_log_finish(axle_log_fresh(), secret, AXLE_SECRET_SIZE, bytes, AXLE_MESSAGE_MAX + 1).refusal.number == AXLE_LENGTH);
+    IS(axle_log_finish(axle_log_fresh(), bytes, AXLE_SECRET_SIZE + 1, bytes, AXLE_MESSAGE_MAX).refusal.number == AXLE_LENGTH);
     IS(axle_read_client_hello(bytes, AXLE_MESSAGE_MAX).refusal.number == AXLE_MALFORMED);
     IS(axle_read_client_hello(bytes, AXLE_MESSAGE_MAX + 1).refusal.number == AXLE_LENGTH);
 
@@ -266,7 +269,8 @@ static void nulls(void)
     n = hello(to, SERVER_HELLO, out, 0);
     IS(axle_decide_client(to, n, NULL, 0, 0, NULL, 0, 0, fresh, legacy).refusal.number == AXLE_DONE);
     IS(axle_log_accept(axle_log_fresh(), NULL, 0, 0).refusal.number == AXLE_MALFORMED);
-    IS(axle_log_check_finished(axle_log_fresh(), NULL, 0, NULL, 0).refusal.number == AXLE_LENGTH);
+    IS(axle_log_finish(axle_log_fresh(), NULL, 0, NULL, 0).refusal.number == AXLE_LENGTH);
+    IS(axle_log_finish(axle_log_fresh(), secret, sizeof secret, NULL, 0).refusal.number == AXLE_MALFORMED);
     IS(axle_log_expected_finished(axle_log_fresh(), NULL, 0).refusal.number == AXLE_LENGTH);
 }
 
@@ -313,14 +317,39 @@ static void table_in_place(void)
     IS(axle_table_held(table, 1).count == 0 && axle_table_held(table, 6).count == 0);
 }
 
+/* In every field: the last one ends where the padding begins. */
+static int same_log(AxleLog a, AxleLog b)
+{
+    return same(&a, &b, offsetof(AxleLog, server) + sizeof a.server);
+}
+
+/* A Finished that is refused, by either call, leaves the log; with the right value it is taken, and the number of the same message
+ * again is then the one given. */
+static void finished_in_place(AxleLog *log, uint8_t again)
+{
+    uint8_t finished[4 + AXLE_VERIFY_DATA_SIZE];
+    const AxleLog before = *log;
+    AxleExpected expected = axle_log_expected_finished(before, secret, sizeof secret);
+    size_t n = message(finished, FINISHED, expected.value, sizeof expected.value);
+    IS(expected.refusal.number == AXLE_DONE);
+    IS(axle_log_accept_in(log, finished, n, 0).number == AXLE_OUT_OF_TURN && same_log(*log, before));
+    IS(axle_log_finish_in(log, secret, sizeof secret - 1, finished, n).number == AXLE_LENGTH && same_log(*log, before));
+    IS(axle_log_finish_in(log, secret, sizeof secret, finished, n - 1).number == AXLE_MALFORMED && same_log(*log, before));
+    finished[15] ^= 1;
+    IS(axle_log_accept_in(log, finished, n, 0).number == AXLE_OUT_OF_TURN && same_log(*log, before));
+    IS(axle_log_finish_in(log, secret, sizeof secret, finished, n).number == AXLE_FINISHED_DIFFERS && same_log(*log, before));
+    finished[15] ^= 1;
+    IS(axle_log_finish_in(log, secret, sizeof secret, finished, n).number == AXLE_DONE && !same_log(*log, before));
+    IS(same_log(*log, axle_log_finish(before, secret, sizeof secret, finished, n).log));
+    IS(axle_log_finish_in(log, secret, sizeof secret, finished, n).number == again);
+}
+
 static void log_in_place(void)
 {
     static const uint8_t types[] = {CLIENT_HELLO, SERVER_HELLO, HELLO_DONE, KEY_EXCHANGE};
     AxleLog log = axle_log_fresh();
     AxleHash hash = axle_hash_fresh();
     AxleSessionHash session;
-    AxleExpected expected;
-    uint8_t finished[16];
     size_t i, n;
     for (i = 0; i < sizeof types; i++) {
         IS(axle_log_session_hash(log).refusal.number == AXLE_OUT_OF_TURN);
@@ -332,23 +361,15 @@ static void log_in_place(void)
     session = axle_log_session_hash(log);
     IS(session.refusal.number == AXLE_DONE && same(session.hash, axle_hash_digest(hash).bytes, sizeof session.hash));
 
-    for (i = 0; i < 2; i++) { /* the client's Finished, then the server's */
-        expected = axle_log_expected_finished(log, secret, sizeof secret);
-        message(finished, FINISHED, expected.value, sizeof expected.value);
-        IS(axle_log_accept_in(&log, finished, sizeof finished, 0).number == AXLE_OUT_OF_TURN);
-        finished[15] ^= 1;
-        IS(axle_log_check_finished_in(&log, secret, sizeof secret, finished, sizeof finished).number == AXLE_FINISHED_DIFFERS);
-        IS(axle_log_accept_in(&log, finished, sizeof finished, 0).number == AXLE_OUT_OF_TURN);
-        finished[15] ^= 1;
-        IS(axle_log_check_finished_in(&log, secret, sizeof secret, finished, sizeof finished).number == AXLE_DONE);
-        IS(axle_log_accept_in(&log, finished, sizeof finished, 0).number == AXLE_DONE);
-    }
-    IS(axle_log_accept_in(&log, finished, sizeof finished, 0).number == AXLE_OUT_OF_TURN);
+    finished_in_place(&log, AXLE_FINISHED_DIFFERS); /* the client's: the server's is due then */
+    finished_in_place(&log, AXLE_OUT_OF_TURN);
 
     log = axle_log_fresh(); /* told that it resumes */
     for (i = 0; i < 2; i++)
         axle_log_accept_in(&log, bytes, message(bytes, types[i], name, 1), 1);
-    IS(axle_log_expected_finished(log, secret, sizeof secret).refusal.number == AXLE_DONE);
+    finished_in_place(&log, AXLE_FINISHED_DIFFERS);
+    finished_in_place(&log, AXLE_OUT_OF_TURN);
+    IS(axle_log_expected_finished(log, secret, sizeof secret).refusal.number == AXLE_OUT_OF_TURN);
 }
 
 static void wiping(void)

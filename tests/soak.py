@@ -83,10 +83,15 @@ def some_number(r, kind):
 
 def drawn(r, name):
     """Arguments that go together: for a writer the fields of a hello, one of them spoilt at times; for the client's decision our
-    server's hello and the session that it names. None is left to chance, and so is what is not there."""
+    server's hello and the session that it names; for a Finished the value that the log expects, or nearly so. None is left to chance,
+    and so is what is not there."""
     if name == "axle_decide_client" and r.random() < 0.3:
         named = r.randbytes(r.randrange(33))
         return [hellos.server_hello(named, extensions=hellos.ri() + hellos.ems()), named, 1, named, 1]
+    if name == "axle_log_finish" and r.random() < 0.3:
+        log, secret = values.some(r, face.Log), r.randbytes(48)
+        value = bytes(face.log_expected_finished(log, secret).value)
+        return [log, secret, hellos.message(20, r.choice((value, value[1:] + value[:1])))]
     if name not in WRITERS or r.random() < 0.2:
         return []
     given = [bytes(face.numbers(value)) if isinstance(value, tuple) else value for value in hellos.some_fields(r, WRITERS[name][0])]
@@ -124,6 +129,8 @@ def soak(seconds, seed, calls=float("inf")):
                 # no bytes: any pointer, NULL too
                 passed += [c.c_void_p(place if data or r.random() < 0.5 else None), len(data) // width]
                 lent.append((page, kind is face.LENT, data))
+            elif issubclass(kind, c.Structure) and value is not None:
+                passed.append(value)
             elif issubclass(kind, c.Structure):
                 passed.append(r.choice(kept[kind]) if kind in kept and r.random() < 0.7 else values.some(r, kind))
             elif issubclass(kind, c._Pointer):

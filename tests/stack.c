@@ -320,19 +320,18 @@ static void asked(AxleLog log)
     TRY(axle_log_expected_finished, log, bytes, 47);
     AxleExpected expected = axle_log_expected_finished(log, bytes, 48);
     size_t finished = message(read, FINISHED, expected.value, 12);
-    TRY(axle_log_check_finished, log, bytes, 48, read, finished);
-    AxleLog checked = axle_log_check_finished(log, bytes, 48, read, finished).log;
-    TRY(axle_log_accept, checked, read, finished, 0);
+    TRY(axle_log_finish, log, bytes, 48, read, finished);
+    TRY(axle_log_accept, log, read, finished, 0);
     for (int type = 0; type < 22; type++)
         for (size_t i = 0; i < sizeof lengths / sizeof *lengths; i++) {
             size_t n = message(read, (uint8_t)type, bytes, lengths[i]);
             TRY(axle_log_accept, log, read, n, 1);
             TRY(axle_log_accept, log, read, n - 1, 0);
-            TRY(axle_log_check_finished, log, bytes, 48, read, n);
-            TRY(axle_log_check_finished, log, bytes, 47, read, n);
+            TRY(axle_log_finish, log, bytes, 48, read, n);
+            TRY(axle_log_finish, log, bytes, 47, read, n);
         }
     TRY(axle_log_accept, log, read, sizeof read, 0);
-    TRY(axle_log_check_finished, log, bytes, 48, read, sizeof read);
+    TRY(axle_log_finish, log, bytes, 48, read, sizeof read);
 }
 
 static void completed(AxleLog log, uint8_t resumes)
@@ -351,13 +350,13 @@ static void handshake(const uint8_t *types, size_t n, size_t length, uint8_t res
     AxleLog log = axle_log_fresh();
     asked(log);
     for (size_t i = 0; i < n; i++) {
-        size_t whole = message(read, types[i], bytes, length);
+        AxleAccepted accepted;
         if (types[i] == FINISHED) {
             AxleExpected expected = axle_log_expected_finished(log, bytes, 48);
-            whole = message(read, FINISHED, expected.value, 12);
-            log = axle_log_check_finished(log, bytes, 48, read, whole).log;
+            accepted = axle_log_finish(log, bytes, 48, read, message(read, FINISHED, expected.value, 12));
+        } else {
+            accepted = axle_log_accept(log, read, message(read, types[i], bytes, length), resumes);
         }
-        AxleAccepted accepted = axle_log_accept(log, read, whole, resumes);
         must(accepted.refusal.number == AXLE_DONE, "a message in turn");
         log = accepted.log;
         asked(log);

@@ -137,8 +137,8 @@ TYPES = {"uint8_t": "u8", "uint16_t": "u16", "uint32_t": "u32", "uint64_t": "u64
 
 
 def rust_type(word):
-    """The name in ffi.rs of a type of the header; the answers of the two calls of the log are one struct there."""
-    return TYPES.get(word) or {"Accepted": "NextLog", "Checked": "NextLog"}.get(name := word.removeprefix("Axle"), name)
+    """The name in ffi.rs of a type of the header."""
+    return TYPES.get(word) or word.removeprefix("Axle")
 
 
 def c_field(words):

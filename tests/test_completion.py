@@ -39,7 +39,7 @@ def stages(resumes):
         p.accept(hellos.message(kind, b"x"), resumes)
         yield copied(p)
     for _ in range(2):
-        p.finish()
+        p.take_due()
         yield copied(p)
 
 
@@ -78,9 +78,7 @@ def test_two_real_handshakes_on_one_connection():
         raw = face.decide_server(hello, 1, table, face.connection(record), face.switches(switches), face.lend(bytes(64)))
         p = Pair()
         for _, m in full.messages:
-            if m[0] == 20:
-                p.check(full.master_secret, m)
-            p.accept(m)
+            assert p.feed(full.master_secret, m) == 0
         number, record = agree(p, record, made, raw)
         assert number == 0 and record.completed
         again = hellos.client_hello(extensions=hellos.ri(record.client) + hellos.ems())
@@ -165,8 +163,8 @@ class Sides:
             assert self.book.store(AXLE, *session) == 0
             self.table = face.table_store(self.table, AXLE, named, int(decided.ems), session[2]).table
         for log in logs:
-            log.finish(session[2])
-            log.finish(session[2])
+            log.take_due(session[2])
+            log.take_due(session[2])
         completed = [agree(log, record, decided) for log, record in zip(logs, (self.client, self.server))]
         assert completed[0] == completed[1] and completed[0][0] == 0
         self.client, self.server = (record for _, record in completed)

@@ -61,9 +61,9 @@ def test_run_on_the_sample():
     assert said.returncode == 0, said
     plain, words = in_words(said.stdout)
     made = subprocess.run([ROOT / "tools/make-case", SAMPLE], capture_output=True, check=True).stdout
-    assert plain == loglist(made).splitlines() and plain[-2:] == ["9 20 7 -", "10 20 7 -"]
-    assert words[1] == "ClientHello: accepted; the server's decision: done" and words[-1] == "Finished: refused, 7: out of turn"
-    assert "only once it was checked" in said.stdout.splitlines()[-1]
+    assert plain == loglist(made).splitlines() and plain[-2:] == ["9 20 8 -", "10 20 8 -"]
+    assert words[1] == "ClientHello: accepted; the server's decision: done" and words[-1] == "Finished: refused, 8: Finished value differs"
+    assert said.stdout.count("\n\n") == 1 and "48 zero bytes" in said.stdout.splitlines()[-1]
     assert said.stderr.startswith("proving loglist: ")
 
 
@@ -93,7 +93,9 @@ def test_captures_and_where_it_is_called_from():
         assert in_words(said.stdout)[0] == ["message type log hello", "1 1 0 0", "2 2 0 -"], said
         shutil.copy(SAMPLE, path / "own.txt")
         said = run("own.txt", path=path, cwd=path)
-        assert said.returncode == 0 and in_words(said.stdout)[0][-1] == "10 20 7 -", said
+        assert said.returncode == 0 and in_words(said.stdout)[0][-1] == "10 20 8 -", said
+        said = run(SAMPLE.with_name("resumed-handshake.txt"), path=path)
+        assert in_words(said.stdout)[0][-2:] == ["3 20 7 -", "4 20 7 -"] and "resumes" in said.stdout.splitlines()[-1], said
 
 
 def test_a_failed_input_is_no_verdict():
@@ -187,6 +189,9 @@ def test_words():
         told[-1]
         == "ClientHello: accepted; the server's decision: refused, 11: axle not 1 to 6, or identifier not 1 to 32 bytes"
     )
+    for row, notes in (("1 20 0 -", ()), ("1 2 7 -", ()), ("1 20 1 -", ()), ("1 20 7 -", ("resumes",)), ("1 20 8 -", ("48 zero bytes",))):
+        _, *told = words(f"{header}\n{row}\n").stdout.split("\n\n")
+        assert len(told) == len(notes) and all(note in text for note, text in zip(notes, told)), row
     header_text = (ROOT / "include/axle_gateway.h").read_text()
     numbers = re.findall(r"AXLE_\w+ = (\d+)", header_text[header_text.index("AXLE_DONE = 0") :].split("};")[0])
     assert numbers == [str(n) for n in range(12)]

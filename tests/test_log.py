@@ -1,7 +1,10 @@
-"""The message log against the second program: every short order of types, random walks, real handshakes of OpenSSL."""
+"""The message log against the second program: every order of types, random walks, real handshakes of OpenSSL. After each call the
+whole log is compared, not the answer alone."""
 
+import hashlib
 import itertools
 import random
+import re
 
 from oracle import numbers, secrets
 from oracle.log import Log as Oracle
@@ -9,7 +12,19 @@ from tests import face, hellos, values
 from tests.handshakes import full_and_resumed
 
 TYPES = (0, 1, 2, 11, 12, 13, 14, 15, 16, 20, 99)
-SECRET = bytes(range(48))
+LONGEST = 16_388
+SECRET, OTHER = bytes(range(48)), bytes(48)
+NOT_48_BYTES = (b"", SECRET[1:], SECRET + b"\x00", bytes(LONGEST + 1))
+
+# The words of accepted messages that lead to a place, in the order of the places' numbers (crates/log/src/order.rt).
+FULL = ["", "a", "ab", "abc", "abc?k", "abc?k?r", "abc?k?d", "abc?k?rd", "abc?k?rdc", "abc?k?dx", "abc?k?rdcx", ".*v", ".*C", ".*CS"]
+RESUMED = ["ab", "abS", "abSC"]
+
+
+def place(oracle):
+    first, ways = (len(FULL), RESUMED) if oracle.resumed else (0, FULL)
+    (found,) = (n for n, way in enumerate(ways, first) if re.fullmatch(way, oracle.word))
+    return found
 
 
 class Pair:
@@ -23,13 +38,26 @@ class Pair:
         if number:
             assert face.plain(answer.log) == face.plain(self.log)
         self.log = answer.log
+        self._stands()
         return number
+
+    def _stands(self):
+        """The log is the second program's in every field."""
+        log, o = self.log, self.oracle
+        digest = bytes(face.hash_digest(log.hash).bytes)
+        assert (log.hash.length, digest) == (len(o.hashed), hashlib.sha256(o.hashed).digest()), o.word
+        assert (log.place, bytes(log.session)) == (place(o), o.session or bytes(32)), o.word
+        assert (bytes(log.client), bytes(log.server)) == tuple(o.values.get(side, bytes(12)) for side in "CS"), o.word
 
     def accept(self, message, resumes=False):
         return self._keep(face.log_accept(self.log, message, int(resumes)), self.oracle.accept(message, resumes))
 
-    def check(self, secret, message):
-        return self._keep(face.log_check_finished(self.log, secret, message), self.oracle.check_finished(secret, message))
+    def finish(self, secret, message):
+        return self._keep(face.log_finish(self.log, secret, message), self.oracle.finish(secret, message))
+
+    def feed(self, secret, message, resumes=False):
+        """Each message by the call that it is for."""
+        return self.finish(secret, message) if message[0] == 20 else self.accept(message, resumes)
 
     def session_hash(self):
         number, value = self.oracle.session_hash()
@@ -43,22 +71,26 @@ class Pair:
         assert (answer.refusal.plain(), bytes(answer.value)) == (numbers.refusal(number), value)
         return number, value
 
-    def finish(self, secret=SECRET):
-        """Checks and takes the Finished that is due."""
+    def due(self, secret=SECRET):
+        """The Finished that is due, or None."""
         number, value = self.expected(secret)
-        assert number == 0
-        message = hellos.message(20, value)
-        assert self.check(secret, message) == 0
-        assert self.accept(message) == 0
+        return None if number else hellos.message(20, value)
+
+    def take_due(self, secret=SECRET):
+        assert self.finish(secret, self.due(secret)) == 0
 
     def state(self):
         """What decides all later answers, for telling situations apart."""
         o = self.oracle
-        return o.word, o.resumed, o.hashed, o.session, o.checked
+        return o.word, o.resumed, o.hashed, o.session
 
 
 def body(kind):
     return bytes(12) if kind == 20 else b"" if kind == 0 else bytes([kind])
+
+
+def some_message(kind):
+    return hellos.message(kind, body(kind))
 
 
 def copied(pair):
@@ -67,32 +99,50 @@ def copied(pair):
     return Pair(type(pair.log).from_buffer_copy(pair.log), o)
 
 
+def after(*kinds, resumes=False):
+    """The log that has accepted messages of these types; a Finished is the one that is due."""
+    p = Pair()
+    for kind in kinds:
+        assert p.feed(SECRET, p.due() if kind == 20 else some_message(kind), resumes) == 0
+    return p
+
+
+def situations():
+    """Every log that can be reached by messages of these types, told and not told of resuming; a due Finished has its value. A
+    refused message leaves the log as it was (that is compared), so orders that differ only in refused messages are one."""
+    met, to_follow = {}, [Pair()]
+    while to_follow:
+        pair = to_follow.pop()
+        if pair.state() in met:
+            continue
+        met[pair.state()] = pair
+        for kind, told in (*((kind, False) for kind in TYPES), (2, True)):
+            p = copied(pair)
+            p.feed(SECRET, (p.due() if kind == 20 else None) or some_message(kind), told)
+            p.session_hash()
+            to_follow.append(p)
+    return list(met.values())
+
+
+def finishing():
+    """Those in which a Finished is due."""
+    return [p for p in situations() if p.due()]
+
+
 def test_every_order():
-    """Each order of types, of any length, told and not told of resuming: every situation that can be reached is met, and in
-    each of them every type is tried. A refused message leaves the log as it was (that is compared too), so orders that
-    differ only in refused messages need not be followed twice. A due Finished is also taken after a check."""
-    seen, frontier, steps, longest = set(), [Pair()], 0, 0
-    while frontier:
-        following = []
-        for pair in frontier:
-            for kind, told in itertools.product(TYPES, (False, True)):
-                if told and kind != 2:
-                    continue
-                steps += 1
-                p = copied(pair)
-                p.accept(hellos.message(kind, body(kind)), told)
-                if kind == 20 and pair.oracle._due():
-                    p = copied(pair)
-                    p.finish()
-                p.session_hash()
-                if p.state() not in seen:
-                    seen.add(p.state())
-                    following.append(p)
-        longest += bool(following)
-        frontier = following
-    complete = {s[0] for s in seen if s[0].endswith(("CS", "SC"))}
-    assert len(complete) == 13 and longest >= 11  # twelve full orders and the resumed one
-    return f"{steps} steps, {len(seen)} situations, orders of up to {longest} messages"
+    """In every situation every type is given to both calls, with a Finished whose value is wrong."""
+    met, steps = situations(), 0
+    for pair in met:
+        for kind, told in itertools.product(TYPES, (False, True)):
+            steps += 2
+            p, message = copied(pair), some_message(kind)
+            assert p.finish(SECRET, message) == (8 if kind == 20 and p.due() else 7)
+            p.accept(message, told)  # in turn or not, as if it had not been given to the other call
+            p.session_hash()
+    complete = {p.oracle.word for p in met if p.oracle.complete}
+    assert len(complete) == 13  # twelve full orders and the resumed one
+    assert complete == {p.oracle.word for p in met if p.oracle.word.endswith(("CS", "SC"))}
+    return f"{steps} steps, {len(met)} situations, orders of up to {max(map(len, complete))} messages"
 
 
 def test_told_counts_only_with_the_server_hello():
@@ -108,10 +158,16 @@ def test_told_counts_only_with_the_server_hello():
 
 
 def test_case_of_document_01():
-    p = Pair()
-    assert p.accept(hellos.message(1, b"")) == 0
-    assert p.accept(hellos.message(2, b"")) == 0
-    assert p.accept(hellos.message(20, bytes(12))) == 7
+    for secret in (SECRET, OTHER, b"\xff" * 48):
+        not_told, told = Pair(), Pair()
+        for p in (not_told, told):
+            assert p.accept(hellos.message(1, b"")) == 0
+            assert p.accept(hellos.message(2, b""), p is told) == 0
+        for message in (hellos.message(20, bytes(12)), told.due(secret)):
+            assert not_told.finish(secret, message) == 7
+            assert not_told.accept(message) == told.accept(message) == 7
+        assert told.finish(secret, hellos.message(20, bytes(12))) == 8
+        assert told.finish(secret, told.due(secret)) == 0
     p = Pair()
     assert p.accept(hellos.message(0, b"")) == 0
     assert p.oracle.hashed == b"" and face.plain(p.log.hash) == face.plain(face.log_fresh().hash)
@@ -129,7 +185,7 @@ def in_turn(r, p, choices=(1, 2, 11, 12, 13, 14, 15, 16)):
 
 def test_long_random_walks():
     r = random.Random(1)
-    complete = 0
+    complete, answered = 0, set()
     for _ in range(250):
         p, resumed = Pair(), r.random() < 0.4
         secrets_ = [r.randbytes(48) for _ in range(2)]
@@ -138,45 +194,48 @@ def test_long_random_walks():
             due = p.oracle._due()
             if way < 0.45 and not due:
                 m = in_turn(r, p)
+                if m and r.random() < 0.2:
+                    p.finish(secrets_[0], m)
                 if m:
                     p.accept(m, resumed)
             elif way < 0.55:
-                p.accept(hellos.damaged(r, hellos.message(r.choice(TYPES), r.randbytes(r.randrange(20)))), r.random() < 0.5)
+                m = hellos.damaged(r, hellos.message(r.choice(TYPES), r.randbytes(r.randrange(20))))
+                p.accept(m, r.random() < 0.5)
+                answered.add(p.finish(secrets_[0], m))
             elif way < 0.6:
                 p.accept(hellos.message(0, b""))
             elif way < 0.8 and due:
                 secret = r.choice(secrets_)
-                m = hellos.message(20, p.expected(secret)[1])
+                m = p.due(secret)
                 if r.random() < 0.3:
                     m = m[:-1] + bytes([m[-1] ^ r.choice((0, 1, 128))])
-                p.check(secret, m)
-                if r.random() < 0.7:
-                    p.accept(m)
-                elif r.random() < 0.5:
-                    p.accept(hellos.message(0, b""))
-                    p.accept(m)
+                if r.random() < 0.3:
+                    p.accept(r.choice((m, hellos.message(0, b""))))
+                answered.add(p.finish(secret if r.random() < 0.8 else secrets_[0], m))
             elif way < 0.85:
-                p.check(r.randbytes(r.choice((0, 47, 48, 49))), hellos.message(20, r.randbytes(r.choice((11, 12, 13)))))
+                answered.add(p.finish(r.randbytes(r.choice((0, 47, 48, 49))), hellos.message(20, r.randbytes(r.choice((11, 12, 13))))))
             elif way < 0.9:
-                p.check(secrets_[0], r.choice((hellos.message(0, b""), hellos.message(0, b"x"), hellos.message(14, b""), b"", bytes(16_389))))
+                others = hellos.message(0, b""), hellos.message(0, b"x"), hellos.message(14, b""), b"", bytes(LONGEST + 1)
+                answered.add(p.finish(secrets_[0], r.choice(others)))
             else:
                 p.session_hash()
                 p.expected(r.choice(secrets_))
                 p.expected(b"short")
         complete += p.oracle.complete
-    assert complete > 20
+    assert complete > 20 and answered == {0, 1, 7, 8, 10}
     return f"{complete} of 250 walks completed"
 
 
 def test_longest_messages():
     p = Pair()
     for kind in (1, 2, 11, 12, 13, 14, 11, 16, 15):
-        m = hellos.message(kind, bytes([kind]) * 16_384)
-        assert p.accept(m + b"\x00") == 10
+        m = hellos.message(kind, bytes([kind]) * (LONGEST - 4))
+        assert p.accept(m + b"\x00") == p.finish(SECRET, m + b"\x00") == 10
+        assert p.finish(SECRET, m) == 7
         assert p.accept(m) == 0
         p.session_hash()
-    p.finish()
-    p.finish()
+    p.take_due()
+    p.take_due()
     assert p.oracle.complete
     p.session_hash()
     assert p.accept(hellos.message(1, b"")) == 7
@@ -188,34 +247,114 @@ def test_damaged_headers():
     for n in range(12):
         for _ in range(40):
             p.accept(r.randbytes(n))
+    due = after(1, 2, 14, 16)
     for stated in range(0, 40):
         for length in range(0, 40):
+            rest = stated.to_bytes(3, "big") + bytes(length)
             q = Pair()
-            q.accept(bytes([1]) + stated.to_bytes(3, "big") + bytes(length))
+            q.accept(bytes([1]) + rest)
+            assert due.finish(SECRET, bytes([20]) + rest) == (8 if stated == length == 12 else 1)
+            assert due.finish(SECRET, bytes([14]) + rest) == (7 if stated == length else 1)
 
 
-def test_remembered_finished():
-    """The last one checked equal counts, until the next accepted message; refused checks alter nothing."""
-    start = Pair()
-    for kind in (1, 2, 14, 16):
-        start.accept(hellos.message(kind, b""))
-    one, two = (hellos.message(20, start.expected(s)[1]) for s in (SECRET, bytes(48)))
-    p = copied(start)
-    assert p.accept(one) == 7
-    assert p.check(SECRET, one) == 0
-    assert p.check(SECRET, two) == 8
-    assert p.check(bytes(47), one) == 10
-    assert p.check(SECRET, hellos.message(14, b"")) == 7
-    assert copied(p).accept(one) == 0
-    assert p.check(bytes(48), two) == 0
-    assert p.accept(one) == 7
-    assert p.accept(two) == 0
-    p = copied(start)
-    p.check(SECRET, one)
-    assert p.accept(hellos.message(99, b"")) == 7
-    assert copied(p).accept(one) == 0
-    assert p.accept(hellos.message(0, b"")) == 0
-    assert p.accept(one) == 7
+# ---- The Finished
+
+
+def test_accepting_takes_no_finished():
+    """Type 20 is 7 to the accepting call in every situation, due or not, equal or not: after 10 and 1."""
+    for p in situations():
+        made = [bytes(12), *(p.oracle._value(secret, side) for secret in (SECRET, OTHER) for side in "CS")]
+        for value, told in itertools.product(made, (False, True)):
+            assert p.accept(hellos.message(20, value), told) == 7
+            for wrong in (value[1:], value + b"\x00", b"", value * 2):
+                assert p.accept(hellos.message(20, wrong), told) == 1
+            assert p.accept(hellos.message(20, value)[:-1], told) == p.accept(hellos.message(20, value) + b"\x00", told) == 1
+            assert p.accept(hellos.message(20, value).ljust(LONGEST + 1, b"\x00"), told) == 10
+        assert p.due() is None or p.finish(SECRET, p.due()) == 0
+
+
+def test_numbers_in_order():
+    """10 before 1 before 7 before 8, for messages that would earn several of them; what is refused leaves the log, so the right
+    one is taken in the end."""
+    for p in situations():
+        due = p.due()
+        value = due[4:] if due else bytes(12)
+        wrong = hellos.message(20, value[:-1] + bytes([value[-1] ^ 1]))
+        too_long = [hellos.message(kind, value.ljust(LONGEST - 3, b"\x00")) for kind in TYPES]
+        too_long += [hellos.message(20, value).ljust(LONGEST + 1, b"\x00"), bytes([20]) * (LONGEST + 1)]
+        malformed = [b"", wrong[:1], wrong[:3], wrong[:-1], wrong + b"\x00"]
+        malformed += [hellos.message(20, b) for b in (b"", value[1:], value + b"\x00", value * 2, value.ljust(LONGEST - 4, b"\x00"))]
+        malformed += [hellos.message(0, b"\x00"), hellos.message(0, value)]
+        malformed += [some_message(kind) + b"\x00" for kind in TYPES] + [some_message(kind)[:-1] for kind in TYPES]
+        others = [some_message(kind) for kind in TYPES if kind != 20] + [hellos.message(kind, value) for kind in TYPES[1:] if kind != 20]
+        for secret, message in itertools.product(NOT_48_BYTES, (*too_long, *malformed, *others, wrong, hellos.message(20, value))):
+            assert p.finish(secret, message) == 10
+        for secret in (SECRET, OTHER):
+            assert {p.finish(secret, message) for message in too_long} == {10}
+            assert {p.finish(secret, message) for message in malformed} == {1}
+            assert {p.finish(secret, message) for message in others} == {7}
+            assert p.finish(secret, wrong) == (8 if due else 7)
+        assert p.finish(SECRET, hellos.message(20, value)) == (0 if due else 7)
+
+
+def beginnings(hashed):
+    """What was hashed before the first message, the second, .. and the last."""
+    at = 0
+    while at < len(hashed):
+        yield hashed[:at]
+        at += 4 + int.from_bytes(hashed[at + 1 : at + 4], "big")
+
+
+def test_only_the_value_that_is_due():
+    """Not the one under another secret, under the other side's label, or of an earlier moment, and no bit of it is without account."""
+    for p in finishing():
+        right, side = p.due(), p.oracle._due()
+        assert p.finish(OTHER, right) == p.finish(SECRET, p.due(OTHER)) == 8
+        assert p.finish(SECRET, hellos.message(20, p.oracle._value(SECRET, "S" if side == "C" else "C"))) == 8
+        for earlier, server in itertools.product(beginnings(p.oracle.hashed), (False, True)):
+            value = secrets.verify_data(SECRET, server, hashlib.sha256(earlier).digest())
+            assert p.finish(SECRET, hellos.message(20, value)) == 8
+        for bit in range(8 * len(right)):
+            flipped = (int.from_bytes(right, "little") ^ 1 << bit).to_bytes(len(right), "little")
+            assert p.finish(SECRET, flipped) == (7 if bit < 8 else 1 if bit < 32 else 8)  # type, length, value
+        assert p.finish(SECRET, right) == 0
+
+
+def test_each_finished_once():
+    """Of full and resumed orders: the client's or the server's first, then the other, then none."""
+    orders = (1, 2, 14, 16), (1, 2, 11, 12, 14, 16), (1, 2, 13, 14, 11, 16), (1, 2, 11, 13, 14, 11, 16, 15), (1, 2)
+    for kinds in orders:
+        p = after(*kinds, resumes=kinds == (1, 2))
+        first = p.due()
+        assert p.finish(SECRET, first) == 0 and list(p.oracle.values.items()) == [("S" if kinds == (1, 2) else "C", first[4:])]
+        assert p.finish(SECRET, first) == 8 and p.accept(first) == 7 and not p.oracle.complete
+        second = p.due()
+        assert p.finish(SECRET, second) == 0 and p.oracle.complete
+        for message in (first, second, hellos.message(20, bytes(12)), some_message(1)):
+            assert p.finish(SECRET, message) == p.accept(message) == 7
+        assert p.due() is None and p.accept(some_message(0)) == 0 and p.oracle.complete
+
+
+def test_two_secrets():
+    """Each call has its own: the log keeps none, and a refused one leaves no trace."""
+    p = after(1, 2, 14, 16)
+    assert p.finish(SECRET, p.due(OTHER)) == 8
+    assert p.finish(OTHER, p.due(OTHER)) == 0
+    assert p.finish(OTHER, p.due(SECRET)) == 8
+    assert p.finish(SECRET, p.due(SECRET)) == 0
+
+
+def test_a_hello_request_changes_nothing():
+    """Type 0 between the expected value and the call that takes it, between both Finished, and behind them."""
+    for plain in finishing():
+        p = copied(plain)
+        while due := p.due():
+            assert p.accept(some_message(0)) == 0 and p.due() == due
+            assert p.finish(SECRET, some_message(0)) == 7 and p.finish(SECRET, hellos.message(0, due[4:])) == 1
+            assert p.finish(SECRET, due) == plain.finish(SECRET, due) == 0
+            assert p.accept(some_message(0)) == 0
+            assert face.plain(p.log) == face.plain(plain.log)
+        assert p.oracle.complete
 
 
 def test_real_handshakes():
@@ -224,14 +363,14 @@ def test_real_handshakes():
         full, resumed = full_and_resumed(certificate, ems)
         for h in (full, resumed):
             p = Pair()
-            values = []
             for _, m in h.messages:
                 if m[0] == 20:
                     assert p.expected(h.master_secret) == (0, m[4:])
-                    assert p.check(h.master_secret, m) == 0
-                    values.append(m)
-                assert p.accept(m, h.resumed) == 0
-            assert p.oracle.complete and len(values) == 2
+                    assert p.accept(m, h.resumed) == 7 and p.finish(OTHER, m) == 8
+                else:
+                    assert p.finish(h.master_secret, m) == 7
+                assert p.feed(h.master_secret, m, h.resumed) == 0
+            assert p.oracle.complete
             number, session_hash = p.session_hash()
             assert number == (7 if h.resumed else 0)
             if ems and not h.resumed:
@@ -242,19 +381,30 @@ def test_real_handshakes():
 
 
 def test_any_struct_value_ends():
-    """A log that no run of calls made: every number is one of the call's, and a refusal changes nothing."""
+    """A log that no run of calls made: every number is one of the call's, and a refusal changes nothing. Accepting takes no Finished,
+    and the other call only the one that is expected: then its value is one side's, and all but hash and place is as it was."""
     r = random.Random(3)
     seen = {}
     for _ in range(4000):
         log = values.some(r, face.Log)
-        value = r.choice((bytes(log.value), bytes(face.log_expected_finished(log, SECRET).value), r.randbytes(12)))
-        m = r.choice((hellos.message(20, value), hellos.message(r.choice(TYPES), r.randbytes(r.choice((0, 12, 100))))))
+        expected = face.log_expected_finished(log, SECRET)
+        right = hellos.message(20, bytes(expected.value))
+        m = r.choice((right, hellos.message(20, r.randbytes(12)), hellos.message(r.choice(TYPES), r.randbytes(r.choice((0, 12, 100))))))
         m = hellos.damaged(r, m) if r.random() < 0.2 else m
         m = hellos.message(1, bytes(16_385)) if r.random() < 0.05 else m
-        for answer in (face.log_accept(log, m, r.randrange(256)), face.log_check_finished(log, r.choice((SECRET, SECRET[1:])), m)):
-            seen.setdefault(type(answer), set()).add(answer.refusal.number)
+        secret = r.choice((SECRET, SECRET[1:]))
+        accepted, finished = face.log_accept(log, m, r.randrange(256)), face.log_finish(log, secret, m)
+        for call, answer in (("accept", accepted), ("finish", finished)):
+            seen.setdefault(call, set()).add(answer.refusal.number)
             if answer.refusal.number:
                 assert face.plain(answer.log) == face.plain(log)
-        seen.setdefault(face.SessionHash, set()).add(face.log_session_hash(log).refusal.number)
-        seen.setdefault(face.Expected, set()).add(face.log_expected_finished(log, SECRET).refusal.number)
-    assert seen == {face.Accepted: {0, 1, 7, 10}, face.Checked: {0, 1, 7, 8, 10}, face.SessionHash: {0, 7}, face.Expected: {0, 7}}, seen
+        assert m[:1] != b"\x14" or accepted.refusal.number != 0
+        taken = finished.refusal.number == 0
+        assert taken == (secret == SECRET and expected.refusal.number == 0 and m == right)
+        if taken:
+            kept = (bytes(log.session), bytes(log.client), bytes(log.server))
+            now = (bytes(finished.log.session), bytes(finished.log.client), bytes(finished.log.server))
+            assert now in ((kept[0], m[4:], kept[2]), (kept[0], kept[1], m[4:])) and finished.log.place != log.place
+        seen.setdefault("session hash", set()).add(face.log_session_hash(log).refusal.number)
+        seen.setdefault("expected", set()).add(expected.refusal.number)
+    assert seen == {"accept": {0, 1, 7, 10}, "finish": {0, 1, 7, 8, 10}, "session hash": {0, 7}, "expected": {0, 7}}, seen

@@ -24,7 +24,6 @@ STEERING = {
     (face.Entry, "size"): lambda r: r.randrange(34),
     (face.Table, "len"): lambda r: r.randrange(34),
     (face.Log, "place"): lambda r: r.randrange(18),
-    (face.Log, "checked"): flag,
     **{(face.Connection, name): flag for name in ("completed", "indication", "barred")},
     **{(face.Switches, name): flag for name in ("indication_required", "legacy_full", "legacy_resumption")},
     **{(face.Decision, name): flag for name in ("resumes", "ems", "indication", "bar")},

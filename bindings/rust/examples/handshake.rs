@@ -70,12 +70,11 @@ fn hellos(log: &mut Log, table: &Table, offer: Option<Offer<'_>>) -> Result<Deci
     Ok(server)
 }
 
-/// The Finished that is due, twice: its value is asked for, checked as the peer would, and taken.
+/// The Finished that is due, twice: its value is asked for, and the message is checked and taken as by the peer.
 fn finish(log: &mut Log, secret: &Secret) -> Result<()> {
     for _ in 0..2 {
         let finished = message(FINISHED, &log.expected_finished(secret)?);
-        log.check_finished(secret, &finished)?;
-        log.accept(&finished, false)?;
+        log.finish(secret, &finished)?;
     }
     Ok(())
 }

@@ -176,16 +176,13 @@ pub struct Log {
     pub hash: Hash,
     pub place: u8,
     pub session: [u8; 32],
-    pub checked: u8,
-    pub value: [u8; 12],
     pub client: [u8; 12],
     pub server: [u8; 12],
 }
 
-/// Both `Accepted` and `Checked` of the header.
 #[repr(C)]
 #[derive(Clone, Copy)]
-pub struct NextLog {
+pub struct Accepted {
     pub refusal: Refusal,
     pub log: Log,
 }
@@ -242,7 +239,7 @@ macro_rules! plain {
     };
 }
 
-plain!(Hash, Absorbed, Table, Stored, Withdrawn, Log, NextLog, Connection);
+plain!(Hash, Absorbed, Table, Stored, Withdrawn, Log, Accepted, Connection);
 
 extern "C" {
     pub fn axle_refusal(number: u8) -> Refusal;
@@ -360,15 +357,15 @@ extern "C" {
     ) -> Decision;
 
     pub fn axle_log_fresh() -> Log;
-    pub fn axle_log_accept(log: Log, message: *const u8, length: usize, resumes: u8) -> NextLog;
+    pub fn axle_log_accept(log: Log, message: *const u8, length: usize, resumes: u8) -> Accepted;
     pub fn axle_log_session_hash(log: Log) -> SessionHash;
-    pub fn axle_log_check_finished(
+    pub fn axle_log_finish(
         log: Log,
         secret: *const u8,
         secret_length: usize,
         message: *const u8,
         message_length: usize,
-    ) -> NextLog;
+    ) -> Accepted;
     pub fn axle_log_expected_finished(log: Log, secret: *const u8, secret_length: usize) -> Expected;
 
     pub fn axle_complete(connection: *mut Connection, log: Log, decision: Decision) -> Refusal;

@@ -32,7 +32,7 @@ impl Log {
 
     /// Accepts the next handshake message, header included. `resumes` is of account with a ServerHello alone. Refused as
     /// [`Length`](crate::Refusal::Length) over 16,388 bytes, [`Malformed`](crate::Refusal::Malformed), or
-    /// [`OutOfTurn`](crate::Refusal::OutOfTurn), also for a Finished that was not checked last.
+    /// [`OutOfTurn`](crate::Refusal::OutOfTurn), as a Finished is here, due or not: [`Log::finish`] takes it.
     pub fn accept(&mut self, message: &[u8], resumes: bool) -> Result<()> {
         // SAFETY: the slice is good for its length and only read.
         let answer = Wiped(unsafe { ffi::axle_log_accept(*self.0, message.as_ptr(), message.len(), resumes.into()) });
@@ -48,19 +48,13 @@ impl Log {
         done(answer.refusal, answer.hash)
     }
 
-    /// Is this the Finished that is due? Done, the log remembers it until its next accepted message. Refused as
-    /// [`Length`](crate::Refusal::Length), [`Malformed`](crate::Refusal::Malformed), [`OutOfTurn`](crate::Refusal::OutOfTurn), or
-    /// [`FinishedDiffers`](crate::Refusal::FinishedDiffers).
-    pub fn check_finished(&mut self, secret: &Secret, message: &[u8]) -> Result<()> {
+    /// Checks a Finished and takes it: the log has then accepted it. Refused as [`Length`](crate::Refusal::Length),
+    /// [`Malformed`](crate::Refusal::Malformed), [`OutOfTurn`](crate::Refusal::OutOfTurn) where it is another message or none is
+    /// due, or [`FinishedDiffers`](crate::Refusal::FinishedDiffers).
+    pub fn finish(&mut self, secret: &Secret, message: &[u8]) -> Result<()> {
         // SAFETY: the slices are good for their lengths and only read.
         let answer = Wiped(unsafe {
-            ffi::axle_log_check_finished(
-                *self.0,
-                secret.as_bytes().as_ptr(),
-                SECRET_SIZE,
-                message.as_ptr(),
-                message.len(),
-            )
+            ffi::axle_log_finish(*self.0, secret.as_bytes().as_ptr(), SECRET_SIZE, message.as_ptr(), message.len())
         });
         *self.0 = answer.log;
         done(answer.refusal, ())

@@ -57,8 +57,8 @@ fn every_field_of_a_decision() {
 }
 
 #[test]
-fn the_log_takes_a_finished_that_was_checked() {
-    let secret = Secret::from([5; 48]);
+fn the_log_takes_a_finished_that_is_equal() {
+    let (secret, other) = (Secret::from([5; 48]), Secret::from([6; 48]));
     let mut log = Log::new();
     log.accept(&client_hello(b""), false).unwrap();
     assert_eq!(log.session_hash(), Err(Refusal::OutOfTurn));
@@ -67,13 +67,22 @@ fn the_log_takes_a_finished_that_was_checked() {
     let value = log.expected_finished(&secret).unwrap();
     let finished = [&[20, 0, 0, 12], &value[..]].concat();
     assert_eq!(log.accept(&finished, false), Err(Refusal::OutOfTurn));
-    assert_eq!(log.check_finished(&Secret::from([6; 48]), &finished), Err(Refusal::FinishedDiffers));
-    log.check_finished(&secret, &finished).unwrap();
-    let earlier = log.clone();
-    log.accept(&finished, false).unwrap();
-    assert_ne!(log.expected_finished(&secret), earlier.expected_finished(&secret));
-    assert_eq!(log.accept(&[1, 0, 0], false), Err(Refusal::Malformed));
-    assert_eq!(log.accept(&[0; MESSAGE_MAX + 1], false), Err(Refusal::Length));
+    assert_eq!(log.finish(&other, &finished), Err(Refusal::FinishedDiffers));
+    assert_eq!(log.finish(&secret, &[14, 0, 0, 0]), Err(Refusal::OutOfTurn));
+    for accepting in [false, true] {
+        let mut call =
+            |message: &[u8]| if accepting { log.accept(message, false) } else { log.finish(&secret, message) };
+        assert_eq!(call(&finished[..15]), Err(Refusal::Malformed));
+        assert_eq!(call(&[1, 0, 0]), Err(Refusal::Malformed));
+        assert_eq!(call(&[20; MESSAGE_MAX + 1]), Err(Refusal::Length));
+    }
+    assert_eq!(log.expected_finished(&secret), Ok(value), "refused, the log is as it was");
+    log.finish(&secret, &finished).unwrap();
+    assert_eq!(log.finish(&secret, &finished), Err(Refusal::FinishedDiffers), "the client's is due now");
+    let value = log.expected_finished(&secret).unwrap();
+    log.finish(&secret, &[&[20, 0, 0, 12], &value[..]].concat()).unwrap();
+    assert_eq!(log.expected_finished(&secret), Err(Refusal::OutOfTurn));
+    assert_eq!(log.finish(&secret, &finished), Err(Refusal::OutOfTurn));
 }
 
 #[test]

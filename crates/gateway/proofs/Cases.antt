@@ -1,6 +1,11 @@
--- The table of cases, by computation: every row is `refl`.
+-- The table of cases, by computation.
 -- Assumes nothing.
-use mathlib.Core.Path.{refl}
+use mathlib.Core.Path.{_≡_, refl}
+use mathlib.Core.Bool.{Bool, true, false, not}
+use mathlib.Core.List.{List, [], _∷_}
+use Prim.Native.Nat.{ℕ}
+use lib.ListN.{length}
+use Rattle.seqs.specs.Pick.{pick}
 use Rattle.refusal.specs.First.{firstOf}
 use Rattle.refusal.specs.Table.{refusalOf}
 use Rattle.octets.specs.Same.{same}
@@ -14,18 +19,28 @@ use Rattle.decision.specs.Connection.{closed, wrongFirst, decided, decision}
 use Rattle.decision.specs.Reply.{replyList, replyOf}
 use Rattle.decision.specs.Server.{serverWrong, serverFlag, resumable, serverOutcome, serverReply, serverNumber, serverDecision}
 use Rattle.log.specs.Order.{turns, isDue, look, finishedDue}
-use Rattle.log.specs.History.{placeOf, hashed, remembered}
-use Rattle.log.specs.Calls.{wrongBody, misshapen, outOfTurn, isMessage, unchecked, acceptNumber, afterAccept}
-use Rattle.log.specs.Check.{checkNumber, expectedNumber}
+use Rattle.log.specs.History.{tells, placeOf, hashed}
+use Rattle.log.specs.Calls.{wrongBody, misshapen, outOfTurn, isFinished, acceptNumber, afterAccept}
+use Rattle.log.specs.Finish.{expectedValue, expectedNumber, finishNumber}
 use Rattle.sessions.specs.Book as book
-use Rattle.gateway.specs.Cases.{SmallestHellos, Cases, numbersFrom, heldBy}
+use Rattle.gateway.specs.Cases.{SmallestHellos, Cases, message, greeted, numbersFrom, heldBy}
 
 smallest-hellos : SmallestHellos
 unfolding firstOf byteAt pairAt tripleAt kindOf bodyOf overlong misstated big field counted vector opening closing clientLayout serverLayout twice helloNumber readClient readServer
 smallest-hellos = record { client-size = refl; client = refl; client-less = refl; server-size = refl; server = refl; server-less = refl }
 
+by-value : (b : Bool) → firstOf ((8, not b) ∷ []) ≡ pick b 0 8
+unfolding firstOf
+by-value true = refl
+by-value false = refl
+
+fed-finished : (told resumes : Bool) (value : List ℕ) → length value ≡ 12 → acceptNumber (greeted told) (message 20 value) resumes ≡ 7
+unfolding firstOf byteAt pairAt tripleAt kindOf bodyOf overlong misstated turns isDue look tells placeOf wrongBody misshapen outOfTurn isFinished acceptNumber afterAccept
+fed-finished true resumes value e = rw e
+fed-finished false resumes value e = rw e
+
 pub cases : Cases
-unfolding firstOf refusalOf same byteAt pairAt tripleAt kindOf bodyOf overlong misstated big field counted vector shaped extension listOf extensionsOf has twice contentOf indicationOf opening closing clientLayout signalIn helloNumber readClient writtenList writtenBlock closed wrongFirst decided decision replyList replyOf serverWrong serverFlag resumable serverOutcome serverReply serverNumber serverDecision turns isDue look finishedDue placeOf hashed remembered wrongBody misshapen outOfTurn isMessage unchecked acceptNumber afterAccept checkNumber expectedNumber book.many book.oldest book.strike book.isOf book.isName book.isNamed book.fuller book.fullest book.struck book.written book.badAxle book.badName book.badSecret book.storeNumber book.after book.bookFrom numbersFrom heldBy
+unfolding firstOf refusalOf same byteAt pairAt tripleAt kindOf bodyOf overlong misstated big field counted vector shaped extension listOf extensionsOf has twice contentOf indicationOf opening closing clientLayout signalIn helloNumber readClient writtenList writtenBlock closed wrongFirst decided decision replyList replyOf serverWrong serverFlag resumable serverOutcome serverReply serverNumber serverDecision turns isDue look finishedDue tells placeOf hashed wrongBody misshapen outOfTurn isFinished acceptNumber afterAccept expectedNumber finishNumber book.many book.oldest book.strike book.isOf book.isName book.isNamed book.fuller book.fullest book.struck book.written book.badAxle book.badName book.badSecret book.storeNumber book.after book.bookFrom numbersFrom heldBy
 cases =
     record {
       empty-ri = refl;
@@ -36,12 +51,12 @@ cases =
       ems-lost-bare = λ x. refl;
       ems-new = refl;
       flag-clear = refl;
-      early-finished = refl;
-      early-checked = refl;
-      early-check = refl;
-      early-expected = refl;
-      told-checked = refl;
-      told-expected = refl;
+      early-greeted = refl;
+      early-finished = λ secret value e f. rw (e, f);
+      early-expected = λ secret e. rw e;
+      told-expected = λ secret e. rw e;
+      told-finished = λ secret value e f. rw (e, f) (by-value (same value (expectedValue (greeted true) secret)));
+      fed-finished = fed-finished;
       type-0-first = refl;
       type-0-hashed = refl;
       nine = refl;

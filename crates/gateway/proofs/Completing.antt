@@ -1,24 +1,31 @@
 -- Completion by its tests, and what every outcome of it has in common.
 -- Assumes nothing.
-use mathlib.Core.Path.{_≡_, _∙_, ap}
+use mathlib.Core.Path.{_≡_, refl, sym, _∙_, ap, subst}
+use mathlib.Core.Bool.{Bool, true, false, not, false≢true}
+use mathlib.Core.List.{List, [], _∷_}
 use Prim.Native.Nat.{ℕ}
 use lib.Dec.{eqb}
-use borrow.Author.Tests.{eq-eqb, ne-eqb}
+use borrow.Author.Tests.{eq-eqb, ne-eqb, not-false}
 use Rattle.seqs.specs.Pick.{pick}
 use Rattle.seqs.specs.Flag.{yes, bit}
 use Rattle.refusal.specs.First.{firstOf}
 use Rattle.refusal.specs.Table.{refusalOf}
-use Rattle.refusal.specs.Listed.{row-number}
+use Rattle.refusal.specs.Listed.{row-number, numbered}
+use Rattle.refusal.proofs.First.{first-zero}
 use Rattle.refusal.specs.declared.Refusal.{Refusal}
-use Rattle.log.specs.History.{History}
+use Rattle.log.specs.History.{History, complete, verifyDataOf}
+use Rattle.log.specs.History.History.{fresh}
+use Rattle.log.specs.History.Side.{client, server}
 use Rattle.log.specs.Calls.{finishedOf}
 use Rattle.log.specs.Stands.{Stands}
+use Rattle.log.specs.Runs.{historyFrom, Came}
+use Rattle.log.proofs.Runs.{law}
 use Rattle.log.specs.declared.state.Log.{Log}
 use Rattle.log.specs.declared.answers.Finished.{Finished}
 use Rattle.decision.specs.declared.connection.Connection.{Connection}
 use Rattle.decision.specs.declared.connection.Decision.{Decision}
 use Rattle.gateway.specs.declared.completion.Completed.{Completed}
-use Rattle.gateway.specs.Completion.{completeNumber, completedRecord, completedOf, Completes}
+use Rattle.gateway.specs.Completion.{completeNumber, completedRecord, completedOf, Completes, WritesChecked}
 
 -- 7, and the record as it was
 abbrev pub refusedWith : Connection → Completed
@@ -61,3 +68,35 @@ module _ (c : Connection) (log : Log) (f : Finished) (d : Decision) where
         kept = λ h. j ∙ kept (completeNumber f d) (λ z. h (ap (λ (x : Refusal). x .number) i ∙ z));
         stands = s;
       }
+
+-- ---- order 6: what is written was checked
+
+-- a log that says that it is complete is, and hands out each side's value
+module _ (h : History) (f : Finished) (e : f ≡ finishedOf h) where
+  says-complete : yes (f .complete) ≡ true → complete h ≡ true
+  unfolding finishedOf
+  says-complete y = go (complete h) refl (rw e at y)
+    where
+      go : (b : Bool) → complete h ≡ b → yes (finishedOf h .complete) ≡ true → complete h ≡ true
+      go true p y = p
+      go false p y = absurd (false≢true (rw p at y))
+
+  values : complete h ≡ true → (f .client ≡ verifyDataOf client h) × (f .server ≡ verifyDataOf server h)
+  unfolding finishedOf
+  values c = rw (e, c) (refl, refl)
+
+pub writes-checked : WritesChecked
+unfolding completedOf completeNumber
+writes-checked begun log cs s run was after d r p z =
+    let f = p .finished in
+    let h = historyFrom fresh cs in
+    let l = law begun log cs s run in
+    let n : completeNumber f d ≡ 0 = sym (numbered (completeNumber f d) r (p .refusal)) ∙ z in
+    let none = first-zero ((7, not (yes (f .complete))) ∷ (7, not (eqb (d .refusal .number) 0)) ∷ (7, not (eqb (bit (yes (f .resumed))) (bit (yes (d .resumes))))) ∷ []) refl n in
+    let e : f ≡ finishedOf h = p .stands h (l .stands) in
+    let c : complete h ≡ true = says-complete h f e (not-false (yes (f .complete)) (none .0)) in
+    let v = values h f e c in
+    let w : after ≡ completedRecord f d = p .connection ∙ (rw n) in (
+      subst (λ (x : List ℕ). Came client h x) (sym (ap (λ (x : Connection). x .client) w ∙ v .0)) (l .came c client),
+      subst (λ (x : List ℕ). Came server h x) (sym (ap (λ (x : Connection). x .server) w ∙ v .1)) (l .came c server),
+    )

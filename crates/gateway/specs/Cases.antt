@@ -7,6 +7,8 @@ use mathlib.Core.List.{List, [], _∷_, _++_}
 use mathlib.Core.Option.{none, some}
 use Prim.Native.Nat.{ℕ, zero, suc, _+_}
 use lib.ListN.{length, take, replicate}
+use Rattle.seqs.specs.Pick.{pick}
+use Rattle.octets.specs.Same.{same}
 use Rattle.hello.specs.Layout.{Parse}
 use Rattle.hello.specs.Layout.Parse.{malformed, parsed}
 use Rattle.hello.specs.Extensions.{Extension, extensionsOf, indicationOf, emsOf}
@@ -18,9 +20,9 @@ use Rattle.decision.specs.Server.{serverNumber, serverDecision}
 use Rattle.decision.specs.declared.connection.Connection.{Connection}
 use Rattle.decision.specs.declared.connection.Switches.{Switches}
 use Rattle.log.specs.History.{History, hashed}
-use Rattle.log.specs.History.History.{fresh, checked}
+use Rattle.log.specs.History.History.{fresh}
 use Rattle.log.specs.Calls.{acceptNumber, afterAccept}
-use Rattle.log.specs.Check.{checkNumber, expectedNumber}
+use Rattle.log.specs.Finish.{expectedValue, expectedNumber, finishNumber}
 
 -- ---- readings
 
@@ -90,7 +92,7 @@ room = replicate 35 0
 
 -- ---- the log
 
--- the numbers of messages that are fed one after the other, from fresh, never told of resuming
+-- the numbers of messages that are fed one after the other to the accepting call, from fresh, never told of resuming
 unfoldable pub numbersFrom : History → List (List ℕ) → List ℕ
 numbersFrom h [] = []
 numbersFrom h (m ∷ ms) = acceptNumber h m false ∷ numbersFrom (afterAccept h m false) ms
@@ -98,12 +100,6 @@ numbersFrom h (m ∷ ms) = acceptNumber h m false ∷ numbersFrom (afterAccept h
 -- 1, 2, told with the second whether it resumes
 abbrev pub greeted : Bool → History
 greeted resumes = afterAccept (afterAccept fresh (message 1 []) false) (message 2 []) resumes
-
-abbrev pub finished : List ℕ
-finished = message 20 (replicate 12 0)
-
-abbrev pub secret : List ℕ
-secret = replicate 48 0
 
 -- ---- the table
 
@@ -139,14 +135,17 @@ pub record Cases : Type 0 where
   pub ems-new : serverDecision 1 (readClient emsHello) (some (record { ems = false })) (connection 0 0) (legacy 0) room ≡ decided fullEms false 6
   -- 'later handshake, flag clear: 9.'
   pub flag-clear : serverNumber 1 (readClient emsHello) none (connection 1 0) (legacy 1) room ≡ 9
-  -- 'log 1, 2, 20 not told it resumes: 7 at the third.'
-  pub early-finished : numbersFrom fresh (message 1 [] ∷ message 2 [] ∷ finished ∷ []) ≡ 0 ∷ 0 ∷ 7 ∷ []
-  -- It is out of turn, and not only unchecked: 7 even after a check, and 7 to check or to ask for. Where it was told, one is due.
-  pub early-checked : acceptNumber (checked (greeted false) finished) finished false ≡ 7
-  pub early-check : checkNumber (greeted false) secret finished ≡ 7
-  pub early-expected : expectedNumber (greeted false) secret ≡ 7
-  pub told-checked : acceptNumber (checked (greeted true) finished) finished false ≡ 0
-  pub told-expected : expectedNumber (greeted true) secret ≡ 0
+  -- 'log 1, 2, 20 not told it resumes: 7 at the third': by order 6's joined call, whatever the secret and whatever the value.
+  pub early-greeted : numbersFrom fresh (message 1 [] ∷ message 2 [] ∷ []) ≡ 0 ∷ 0 ∷ []
+  pub early-finished : (secret value : List ℕ) → length secret ≡ 48 → length value ≡ 12
+      → finishNumber (greeted false) secret (message 20 value) ≡ 7
+  -- None is due there. Where it was told, one is, and the value decides.
+  pub early-expected : (secret : List ℕ) → length secret ≡ 48 → expectedNumber (greeted false) secret ≡ 7
+  pub told-expected : (secret : List ℕ) → length secret ≡ 48 → expectedNumber (greeted true) secret ≡ 0
+  pub told-finished : (secret value : List ℕ) → length secret ≡ 48 → length value ≡ 12
+      → finishNumber (greeted true) secret (message 20 value) ≡ pick (same value (expectedValue (greeted true) secret)) 0 8
+  -- Fed otherwise it is 7, told or not.
+  pub fed-finished : (told resumes : Bool) (value : List ℕ) → length value ≡ 12 → acceptNumber (greeted told) (message 20 value) resumes ≡ 7
   -- 'type 0 first leaves the hash empty.'
   pub type-0-first : numbersFrom fresh (message 0 [] ∷ []) ≡ 0 ∷ []
   pub type-0-hashed : hashed (afterAccept fresh (message 0 []) false) ≡ []

@@ -2,7 +2,7 @@
 -- Assumes nothing.
 use mathlib.Core.Path.{_≡_}
 use mathlib.Core.Bool.{not}
-use mathlib.Core.List.{[], _∷_}
+use mathlib.Core.List.{List, [], _∷_}
 use Prim.Native.Nat.{ℕ}
 use lib.Dec.{eqb}
 use Rattle.seqs.specs.Pick.{pick}
@@ -11,8 +11,11 @@ use Rattle.refusal.specs.First.{firstOf}
 use Rattle.refusal.specs.Table.{refusalOf}
 use Rattle.refusal.specs.declared.Refusal.{Refusal}
 use Rattle.log.specs.History.{History}
+use Rattle.log.specs.History.History.{fresh}
+use Rattle.log.specs.History.Side.{client, server}
 use Rattle.log.specs.Calls.{finishedOf}
 use Rattle.log.specs.Stands.{Stands}
+use Rattle.log.specs.Runs.{Call, historyFrom, Run, Came}
 use Rattle.log.specs.declared.state.Log.{Log}
 use Rattle.log.specs.declared.answers.Finished.{Finished}
 use Rattle.decision.specs.declared.connection.Connection.{Connection}
@@ -55,3 +58,11 @@ pub record Completes (was : Connection) (log : Log) (d : Decision) (r : Refusal)
   pub connection : after ≡ completedOf was finished d .connection
   pub kept : (r .number ≡ 0 → ⊥) → after ≡ was
   pub stands : (h : History) → Stands log h → finished ≡ finishedOf h
+
+-- Order 6: of a log that calls made from a fresh one, completion writes only values that were checked. The proof is
+-- proofs/Completing.antt; that there are such logs, complete ones too, is `Total` and `EveryOrder` of the crate `log`.
+abbrev pub WritesChecked : Type 0
+WritesChecked =
+    (begun log : Log) (cs : List Call) → Stands begun fresh → Run begun cs log
+    → (was after : Connection) (d : Decision) (r : Refusal) → Completes was log d r after → r .number ≡ 0
+    → Came client (historyFrom fresh cs) (after .client) × Came server (historyFrom fresh cs) (after .server)

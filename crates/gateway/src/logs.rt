@@ -3,9 +3,8 @@ ghost use mathlib.Core.Path.{_≡_};
 ghost use Rattle.seqs.specs.Flag.{yes};
 ghost use Rattle.log.specs.History.History.{fresh};
 ghost use Rattle.log.specs.Stands.{Stands};
-ghost use Rattle.log.specs.Promise.{Accepts, Checks, Hashes, Expects};
+ghost use Rattle.log.specs.Promise.{Accepts, Finishes, Hashes, Expects};
 use log::Accepted;
-use log::Checked;
 use log::Expected;
 use log::Log;
 use log::SessionHash;
@@ -32,10 +31,10 @@ pub extern "C" fn axle_log_session_hash(log: Log) -> SessionHash
 }
 
 #[no_mangle]
-pub extern "C" fn axle_log_check_finished(log: Log, secret: &[u8], message: &[u8]) -> Checked
-    ensures { λ r. ⌜ Checks log (now (secret .entry)) (now (message .entry)) r ⌝ }
+pub extern "C" fn axle_log_finish(log: Log, secret: &[u8], message: &[u8]) -> Accepted
+    ensures { λ r. ⌜ Finishes log (now (secret .entry)) (now (message .entry)) r ⌝ }
 {
-    log.check_finished(secret, message)
+    log.finish(secret, message)
 }
 
 #[no_mangle]

@@ -6,15 +6,15 @@ use Rattle.refusal.specs.First.{firstOf}
 use Rattle.message.specs.Numbers.{byteAt, pairAt, tripleAt}
 use Rattle.message.specs.Frame.{kindOf, bodyOf, overlong, misstated}
 use Rattle.log.specs.Order.{turns, isDue, look}
-use Rattle.log.specs.History.{placeOf, remembered}
-use Rattle.log.specs.Calls.{wrongBody, misshapen, outOfTurn, isMessage, unchecked, acceptNumber, afterAccept}
+use Rattle.log.specs.History.{tells, placeOf}
+use Rattle.log.specs.Calls.{wrongBody, misshapen, outOfTurn, isFinished, acceptNumber, afterAccept}
 use Rattle.listing.specs.Contents.{countOf, lengthsIn, lengthsOf, contentsSize, partsOf, bodiesOf, total, goodCase}
 use Rattle.listing.specs.Digits.{ascii, digits, decimal}
 use Rattle.listing.specs.Texts.{header, refused, columnOf, printed}
 use Rattle.listing.specs.Listing.{kindColumn, helloColumn, logNumber, logAfter, lineFor, lines, listing}
 
 example : listing (2 ∷ 0 ∷ 4 ∷ 0 ∷ 4 ∷ 0 ∷ 0 ∷ 0 ∷ 0 ∷ 16 ∷ 0 ∷ 0 ∷ 0 ∷ []) ≡ ascii "message type log hello\n1 0 0 -\n2 16 7 -\n"
-unfolding firstOf byteAt pairAt tripleAt kindOf bodyOf overlong misstated turns isDue look placeOf remembered wrongBody misshapen outOfTurn isMessage unchecked acceptNumber afterAccept countOf lengthsIn lengthsOf contentsSize partsOf bodiesOf total goodCase ascii digits decimal header columnOf printed kindColumn helloColumn logNumber logAfter lineFor lines listing
+unfolding firstOf byteAt pairAt tripleAt kindOf bodyOf overlong misstated turns isDue look tells placeOf wrongBody misshapen outOfTurn isFinished acceptNumber afterAccept countOf lengthsIn lengthsOf contentsSize partsOf bodiesOf total goodCase ascii digits decimal header columnOf printed kindColumn helloColumn logNumber logAfter lineFor lines listing
 example = refl
 
 -- no count byte

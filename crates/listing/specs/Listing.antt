@@ -9,7 +9,8 @@ use Rattle.seqs.specs.Pick.{pick}
 use Rattle.message.specs.Frame.{kindOf}
 use Rattle.log.specs.History.{History}
 use Rattle.log.specs.History.History.{fresh}
-use Rattle.log.specs.Calls.{acceptNumber, afterAccept}
+use Rattle.log.specs.Calls.{isFinished, acceptNumber, afterAccept}
+use Rattle.log.specs.Finish.{finishNumber, afterFinish}
 use Rattle.hello.specs.Fields.{readClient}
 use Rattle.sessions.specs.Book.{empty}
 use Rattle.decision.specs.Connection.{freshConnection}
@@ -42,13 +43,18 @@ decisionNumber m = decisionOn m .refusal .number
 unfoldable pub helloColumn : ℕ → List ℕ → Column
 helloColumn n m = pick (eqb n 0 && eqb (kindOf m) 1) (Number (decisionNumber m)) Nothing
 
--- 'It feeds a fresh log never told of resuming': the log's number for a message
+-- order 6: '`loglist` gives a secret of 48 zero bytes'
+abbrev pub zeroSecret : List ℕ
+zeroSecret = replicate 48 0
+
+-- 'It feeds a fresh log never told of resuming', a Finished by the joined call and every other message by the accepting one: the log's
+-- number for a message
 unfoldable pub logNumber : History → List ℕ → ℕ
-logNumber h m = acceptNumber h m false
+logNumber h m = pick (isFinished m) (finishNumber h zeroSecret m) (acceptNumber h m false)
 
 -- 'A refused message is passed over and the next one fed.'
 unfoldable pub logAfter : History → List ℕ → History
-logAfter h m = afterAccept h m false
+logAfter h m = pick (isFinished m) (afterFinish h zeroSecret m) (afterAccept h m false)
 
 -- the line of message i
 unfoldable pub lineFor : ℕ → History → List ℕ → List ℕ

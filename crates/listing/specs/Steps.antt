@@ -1,4 +1,4 @@
--- What feeding one message promises: the line that is printed of it, and the log after it.
+-- What feeding one message promises: what the log answers to it, the line that is printed of it, and the log after it.
 -- Assumes nothing.
 use mathlib.Core.Path.{_≡_}
 use mathlib.Core.List.{List}
@@ -6,9 +6,14 @@ use Prim.Native.Nat.{ℕ, _≤_}
 use Rattle.log.specs.History.{History}
 use Rattle.log.specs.Stands.{Stands}
 use Rattle.log.specs.declared.state.Log.{Log}
+use Rattle.log.specs.declared.answers.Accepted.{Accepted}
 use Rattle.listing.specs.Texts.{lineOf}
-use Rattle.listing.specs.Listing.{lineFor, logAfter}
+use Rattle.listing.specs.Listing.{lineFor, logNumber, logAfter}
 use Rattle.listing.specs.declared.feed.Fed.{Fed}
+
+pub record Takes (log : Log) (m : List ℕ) (r : Accepted) : Type 0 where
+  pub number : (h : History) → Stands log h → r .refusal .number ≡ logNumber h m
+  pub stands : (h : History) → Stands log h → Stands (r .log) (logAfter h m)
 
 pub record Feeds (log : Log) (i : ℕ) (m : List ℕ) (r : Fed) : Type 0 where
   pub short : r .line .length ≤ 16

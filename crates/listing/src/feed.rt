@@ -4,14 +4,17 @@ use crate::line::Line;
 use decision::Connection;
 use decision::Switches;
 use decision::decide_server;
+use log::Accepted;
 use log::Log;
 use message::byte;
 use sessions::Table;
 ghost use mathlib.Core.Path.{_≡_};
 ghost use Rattle.listing.specs.Listing.{kindColumn, decisionNumber, helloColumn};
-ghost use Rattle.listing.specs.Steps.{Feeds};
+ghost use Rattle.listing.specs.Steps.{Takes, Feeds};
 
 const CLIENT_HELLO: usize = 1;
+
+const FINISHED: usize = 20;
 
 const AXLE: u8 = 1;
 
@@ -65,11 +68,22 @@ fn hello(number: u8, message: &[u8]) -> Column
     Column::Number(decide(message))
 }
 
+// What the log answers to a message: a Finished is checked under a secret of zeros, and all others are accepted.
+fn take(log: Log, message: &[u8]) -> Accepted
+    ensures { λ r. ⌜ Takes log (now (message .entry)) r ⌝ }
+{
+    if byte(message, 0) == FINISHED {
+        let secret = [0u8; 48];
+        return log.finish(&secret, message);
+    }
+    log.accept(message, false)
+}
+
 // The line of a message, and the log after it.
 pub(crate) fn feed(log: Log, number: u8, message: &[u8]) -> Fed
     ensures { λ r. ⌜ Feeds log number (now (message .entry)) r ⌝ }
 {
-    let accepted = log.accept(message, false);
+    let accepted = take(log, message);
     let answer = accepted.refusal.number;
     let line = Line::of(number, kind(message), answer, hello(answer, message));
     let next = accepted.log;

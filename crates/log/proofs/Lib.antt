@@ -4,6 +4,9 @@ pub mod Messages
 pub mod Standing
 pub mod Accepting
 pub mod Asking
-pub mod Checking
+pub mod Finishing
 pub mod Orders
 pub mod Histories
+pub mod Calling
+pub mod Total
+pub mod Runs

@@ -2,38 +2,24 @@
 -- Assumes nothing.
 use mathlib.Core.Path.{_≡_, refl, sym, _∙_}
 use mathlib.Core.Bool.{Bool, true, false, not, _||_}
-use mathlib.Core.List.{List, [], _∷_}
+use mathlib.Core.List.{List}
 use Prim.Native.Nat.{ℕ, _≤_}
 use native.Mathlib.Omega.{arith}
 use lib.Dec.{eqb, ltb}
 use lib.ListN.{length}
-use borrow.Author.Tests.{ltb-false, eqb-true, ne-eqb, not-true, not-false}
+use borrow.Author.Tests.{ltb-false, ne-eqb, not-true, not-false}
 use Rattle.seqs.specs.Pick.{pick}
 use Rattle.refusal.specs.First.{firstOf}
-use Rattle.message.specs.Numbers.{byteAt, pairAt, tripleAt}
-use Rattle.message.specs.Frame.{kindOf, bodyOf, overlong, misstated, frameNumber, framed}
+use Rattle.message.specs.Numbers.{tripleAt}
+use Rattle.message.specs.Frame.{bodyOf, overlong, misstated, frameNumber, framed}
 use Rattle.log.specs.Calls.{wrongBody, misshapen, shapeNumber}
-use Rattle.log.specs.Stands.{finishedWith}
 use Rattle.refusal.specs.declared.Refusal.{Refusal}
 use Rattle.message.specs.declared.header.Header.{Header}
 use Rattle.message.specs.declared.header.Framed.the-variants.{Whole, Refused}
 use Rattle.message.proofs.Frames.{whole-learnt, refused-learnt}
 use Rattle.log.specs.Steps.{Judges}
 use Rattle.refusal.specs.Listed.{numbered}
-use Rattle.seqs.specs.Cases.{or-left, or-right}
-
--- the bytes of a message of type 20 that states 12
-finished-bytes : (m : List ℕ) → 4 ≤ length m → kindOf m ≡ 20 → tripleAt m 1 ≡ 12 → m ≡ finishedWith (bodyOf m)
-unfolding kindOf byteAt pairAt tripleAt bodyOf finishedWith
-finished-bytes [] h k t = absurd (omega arith)
-finished-bytes (a ∷ []) h k t = absurd (omega arith)
-finished-bytes (a ∷ b ∷ []) h k t = absurd (omega arith)
-finished-bytes (a ∷ b ∷ c ∷ []) h k t = absurd (omega arith)
-finished-bytes (a ∷ b ∷ c ∷ d ∷ rest) h k t =
-    let e : b ≡ 0 = omega arith in
-    let f : c ≡ 0 = omega arith in
-    let g : d ≡ 12 = omega arith in
-    cc
+use Rattle.seqs.specs.Cases.{or-left}
 
 -- the bodies that the types ask for
 pub zero-body : (n : ℕ) → eqb n 0 ≡ not (wrongBody 0 n)
@@ -90,10 +76,9 @@ module _ (m : List ℕ) where
     pub shaped : misshapen m ≡ false
     pub longest : length m ≤ 16388
     pub shortest : 4 ≤ length m
-    pub finished : kindOf m ≡ 20 → m ≡ finishedWith (bodyOf m)
 
   fine-of : overlong m ≡ false → misstated m ≡ false → misshapen m ≡ false → Fine
-  unfolding overlong misstated misshapen wrongBody
+  unfolding overlong misstated
   fine-of p q r =
       let short : Bool = ltb (length m) 4 in
       let other : Bool = not (eqb (tripleAt m 1) (length (bodyOf m))) in
@@ -103,11 +88,6 @@ module _ (m : List ℕ) where
         shaped = r;
         longest = ltb-false 16388 (length m) p;
         shortest = ltb-false (length m) 4 (or-left short other q);
-        finished =
-            λ k.
-            let s : tripleAt m 1 ≡ length (bodyOf m) = eqb-true (tripleAt m 1) (length (bodyOf m)) (not-false (eqb (tripleAt m 1) (length (bodyOf m))) (or-right short other q)) in
-            let w : not (eqb (length (bodyOf m)) 12) ≡ false = rw k at r in
-            finished-bytes m (ltb-false (length m) 4 (or-left short other q)) k (s ∙ eqb-true (length (bodyOf m)) 12 (not-false (eqb (length (bodyOf m)) 12) w));
       }
 
   pub fine : shapeNumber m ≡ 0 → Fine

@@ -9,8 +9,8 @@ use Rattle.seqs.specs.Pick.{pick}
 use Rattle.seqs.specs.Cases.{and-left, and-right}
 use Rattle.message.specs.Frame.{kindOf}
 use Rattle.log.specs.Order.{turns, look, isDue}
-use Rattle.log.specs.History.{History, placeOf, exchanged, resumed, finishedTaken, complete, fromServer}
-use Rattle.log.specs.History.History.{fresh, accepted, checked}
+use Rattle.log.specs.History.{History, tells, placeOf, exchanged, resumed, finishedTaken, complete, fromServer}
+use Rattle.log.specs.History.History.{fresh, accepted}
 use Rattle.log.specs.Calls.{outOfTurn, inOrder}
 use Rattle.log.specs.Stands.{number, Placed}
 use Rattle.log.proofs.Turns.{passes, each-place, alike, alike-same, exchangedAt, resumedAt, takenAt, turned}
@@ -23,23 +23,22 @@ pub record Says (n : ℕ) (h : History) : Type 0 where
 says : (h : History) → inOrder h ≡ true → Says (number (placeOf h)) h
 unfolding placeOf inOrder outOfTurn exchanged resumed finishedTaken number
 says fresh o = record { exchanged = refl; resumed = refl; taken = refl }
-says (accepted h m resumes) o =
-    by-test (eqb (kindOf m) 0) refl (not-true _ (and-left (not (outOfTurn h m resumes)) (inOrder h) o)) (says h (and-right (not (outOfTurn h m resumes)) (inOrder h) o))
+says (accepted h m b) o =
+    by-test (eqb (kindOf m) 0) refl (not-true _ (and-left (not (outOfTurn h m (tells b))) (inOrder h) o)) (says h (and-right (not (outOfTurn h m (tells b))) (inOrder h) o))
   where
-    by-test : (b : Bool) → eqb (kindOf m) 0 ≡ b → (not b && not (isDue (kindOf m) (turns resumes (placeOf h)))) ≡ false
+    by-test : (z : Bool) → eqb (kindOf m) 0 ≡ z → (not z && not (isDue (kindOf m) (turns (tells b) (placeOf h)))) ≡ false
         → Says (number (placeOf h)) h
-        → Says (number (pick b (placeOf h) (look (kindOf m) (turns resumes (placeOf h))))) (accepted h m resumes)
+        → Says (number (pick z (placeOf h) (look (kindOf m) (turns (tells b) (placeOf h))))) (accepted h m b)
     by-test true e f s =
         let k = eqb-true (kindOf m) 0 e in
         record { exchanged = rw k (s .exchanged); resumed = rw k (s .resumed); taken = rw k (s .taken) }
     by-test false e f s =
-        let t = turned resumes (placeOf h) (kindOf m) (not-false _ f) in
+        let t = turned (tells b) (placeOf h) (kindOf m) (not-false _ f) in
         record {
           exchanged = rw (s .exchanged) (sym (t .exchanged));
           resumed = rw (s .resumed) (sym (t .resumed));
           taken = rw (s .taken) (sym (t .taken));
         }
-says (checked h m) o = record { exchanged = says h o .exchanged; resumed = says h o .resumed; taken = says h o .taken }
 
 module _ (n : ℕ) (h : History) (s : Placed n h) where
   pub placed-says : Says n h

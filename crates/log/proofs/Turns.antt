@@ -103,7 +103,8 @@ not-due kind [] d = refl
 not-due kind ((due, place) ∷ rest) d =
     rw (or-left (eqb kind due) (isDue kind rest) d) (not-due kind rest (or-right (eqb kind due) (isDue kind rest) d))
 
--- what the numbers say of a history: a ClientKeyExchange was accepted, it was told to resume, how many Finished are taken
+-- what the numbers say of a history: a ClientKeyExchange was accepted, it was told to resume, how many Finished are taken, whether the
+-- next one is the server's, and which side's are taken
 abbrev pub exchangedAt : ℕ → Bool
 exchangedAt n = leb 9 n && leb n 13
 
@@ -113,6 +114,15 @@ resumedAt n = leb 14 n && leb n 16
 abbrev pub takenAt : ℕ → ℕ
 takenAt n = pick (eqb n 12 || eqb n 15) 1 (pick (eqb n 13 || eqb n 16) 2 0)
 
+abbrev pub serverDueAt : ℕ → Bool
+serverDueAt n = eqb n 12 || eqb n 14
+
+abbrev pub clientAt : ℕ → Bool
+clientAt n = eqb n 12 || (eqb n 13 || eqb n 16)
+
+abbrev pub serverAt : ℕ → Bool
+serverAt n = eqb n 15 || (eqb n 13 || eqb n 16)
+
 -- what a turn does: the number rises, though not to nowhere's, and says what the history says
 pub record Turned (resumes : Bool) (n kind n′ : ℕ) : Type 0 where
   pub rises : n < n′
@@ -120,6 +130,8 @@ pub record Turned (resumes : Bool) (n kind n′ : ℕ) : Type 0 where
   pub exchanged : exchangedAt n′ ≡ (eqb kind 16 || exchangedAt n)
   pub resumed : resumedAt n′ ≡ pick (eqb kind 2) resumes (resumedAt n)
   pub taken : takenAt n′ ≡ pick (eqb kind 20) (suc (takenAt n)) (takenAt n)
+  pub client : clientAt n′ ≡ pick (eqb kind 20 && not (serverDueAt n)) true (clientAt n)
+  pub server : serverAt n′ ≡ pick (eqb kind 20 && serverDueAt n) true (serverAt n)
 
 turns-well : Bool → ℕ → ℕ → ℕ → Bool
 turns-well resumes n kind n′ =
@@ -127,25 +139,26 @@ turns-well resumes n kind n′ =
     && (ltb n′ 17
     && (alike (exchangedAt n′) (eqb kind 16 || exchangedAt n)
     && (alike (resumedAt n′) (pick (eqb kind 2) resumes (resumedAt n))
-    && eqb (takenAt n′) (pick (eqb kind 20) (suc (takenAt n)) (takenAt n)))))
+    && (eqb (takenAt n′) (pick (eqb kind 20) (suc (takenAt n)) (takenAt n))
+    && (alike (clientAt n′) (pick (eqb kind 20 && not (serverDueAt n)) true (clientAt n))
+    && alike (serverAt n′) (pick (eqb kind 20 && serverDueAt n) true (serverAt n)))))))
 
 turned-by : (resumes : Bool) (n kind n′ : ℕ) → turns-well resumes n kind n′ ≡ true → Turned resumes n kind n′
 unfolding turns-well
 turned-by resumes n kind n′ e =
-    let a : Bool = ltb n n′ in
-    let b : Bool = ltb n′ 17 in
-    let c : Bool = alike (exchangedAt n′) (eqb kind 16 || exchangedAt n) in
-    let d : Bool = alike (resumedAt n′) (pick (eqb kind 2) resumes (resumedAt n)) in
-    let t : Bool = eqb (takenAt n′) (pick (eqb kind 20) (suc (takenAt n)) (takenAt n)) in
-    let f = and-right a (b && (c && (d && t))) e in
-    let g = and-right b (c && (d && t)) f in
-    let h = and-right c (d && t) g in
+    let f = and-right (ltb n n′) _ e in
+    let g = and-right (ltb n′ 17) _ f in
+    let h = and-right (alike (exchangedAt n′) (eqb kind 16 || exchangedAt n)) _ g in
+    let i = and-right (alike (resumedAt n′) (pick (eqb kind 2) resumes (resumedAt n))) _ h in
+    let j = and-right (eqb (takenAt n′) (pick (eqb kind 20) (suc (takenAt n)) (takenAt n))) _ i in
     record {
-      rises = ltb-true n n′ (and-left a (b && (c && (d && t))) e);
-      most = ltb-true n′ 17 (and-left b (c && (d && t)) f);
-      exchanged = alike-same _ _ (and-left c (d && t) g);
-      resumed = alike-same _ _ (and-left d t h);
-      taken = eqb-true _ _ (and-right d t h);
+      rises = ltb-true n n′ (and-left _ _ e);
+      most = ltb-true n′ 17 (and-left _ _ f);
+      exchanged = alike-same _ _ (and-left _ _ g);
+      resumed = alike-same _ _ (and-left _ _ h);
+      taken = eqb-true _ _ (and-left _ _ i);
+      client = alike-same _ _ (and-left _ _ j);
+      server = alike-same _ _ (and-right (alike (clientAt n′) (pick (eqb kind 20 && not (serverDueAt n)) true (clientAt n))) _ j);
     }
 
 all-turned : (resumes : Bool) (p : Place) → each (λ kind q. turns-well resumes (number p) kind (number q)) (turns resumes p) ≡ true

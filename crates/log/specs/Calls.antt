@@ -1,9 +1,8 @@
 -- What each call answers, and the history after it (document 01, 'The message log'; the order of the numbers is that of 'Numbers
--- answered').
+-- answered'). The call for a Finished is specs/Finish.antt.
 -- Assumes nothing.
-use mathlib.Core.Bool.{Bool, true, false, not, _&&_, _||_}
+use mathlib.Core.Bool.{Bool, true, not, _&&_, _||_}
 use mathlib.Core.List.{List, [], _∷_}
-use mathlib.Core.Option.{Option, none, some}
 use Prim.Native.Nat.{ℕ}
 use lib.Dec.{eqb}
 use lib.ListN.{length, replicate}
@@ -11,12 +10,12 @@ use Rattle.seqs.specs.Pick.{pick}
 use Rattle.seqs.specs.Flag.{bit}
 use Rattle.refusal.specs.First.{firstOf}
 use Rattle.refusal.specs.Table.{refusalOf}
-use Rattle.octets.specs.Same.{same}
 use Rattle.message.specs.Frame.{kindOf, bodyOf, overlong, misstated}
 use Rattle.log.specs.Order.{turns, isDue}
-use Rattle.log.specs.History.{History, placeOf, sessionHash, remembered, exchanged, resumed, complete, verifyDataOf}
+use Rattle.log.specs.History.{History, tells, placeOf, sessionHash, exchanged, resumed, complete, verifyDataOf}
 use Rattle.log.specs.History.Side.{client, server}
-use Rattle.log.specs.History.History.{fresh, accepted, checked}
+use Rattle.log.specs.History.History.{fresh, accepted}
+use Rattle.log.specs.History.Beside.{told}
 use Rattle.log.specs.declared.answers.SessionHash.{SessionHash}
 use Rattle.log.specs.declared.answers.Finished.{Finished}
 
@@ -38,16 +37,11 @@ outOfTurn h m resumes = not (eqb (kindOf m) 0) && not (isDue (kindOf m) (turns r
 -- was each message in turn? From fresh by the calls there is no other history.
 unfoldable pub inOrder : History → Bool
 inOrder fresh = true
-inOrder (accepted h m resumes) = not (outOfTurn h m resumes) && inOrder h
-inOrder (checked h m) = inOrder h
+inOrder (accepted h m b) = not (outOfTurn h m (tells b)) && inOrder h
 
-unfoldable pub isMessage : List ℕ → Option (List ℕ) → Bool
-isMessage m none = false
-isMessage m (some f) = same m f
-
--- 'Taking any other bytes is 7.'
-unfoldable pub unchecked : History → List ℕ → Bool
-unchecked h m = eqb (kindOf m) 20 && not (isMessage m (remembered h))
+-- order 6: 'type 20 fed otherwise is 7'
+unfoldable pub isFinished : List ℕ → Bool
+isFinished m = eqb (kindOf m) 20
 
 -- accepting a message
 unfoldable pub acceptNumber : History → List ℕ → Bool → ℕ
@@ -56,12 +50,12 @@ acceptNumber h m resumes =
     ((10, overlong m)
     ∷ (1, misstated m)
     ∷ (1, misshapen m)
+    ∷ (7, isFinished m)
     ∷ (7, outOfTurn h m resumes)
-    ∷ (7, unchecked h m)
     ∷ [])
 
 unfoldable pub afterAccept : History → List ℕ → Bool → History
-afterAccept h m resumes = pick (eqb (acceptNumber h m resumes) 0) (accepted h m resumes) h
+afterAccept h m resumes = pick (eqb (acceptNumber h m resumes) 0) (accepted h m (told resumes)) h
 
 -- the session hash; 'asked earlier, or in a resumed log, it is 7'
 unfoldable pub sessionNumber : History → ℕ

@@ -6,13 +6,18 @@ use mathlib.Core.Logic.{_⊎_}
 use mathlib.Core.List.{List, [], _∷_, _++_, List·Memᴰ}
 use Prim.Native.Nat.{ℕ}
 use lib.Dec.{eqb}
+use lib.ListN.{length}
 use Rattle.seqs.specs.Pick.{pick}
-use Rattle.message.specs.Frame.{kindOf}
+use Rattle.message.specs.Frame.{kindOf, bodyOf}
 use Rattle.log.specs.Order.{Place, turns, isDue, look}
 use Rattle.log.specs.Order.Place.{beginning, completeFull, completeResumed}
 use Rattle.log.specs.History.{History, resumed, complete}
-use Rattle.log.specs.History.History.{fresh, accepted, checked}
-use Rattle.log.specs.Calls.{inOrder, sessionNumber}
+use Rattle.log.specs.History.History.{fresh, accepted}
+use Rattle.log.specs.History.Beside.{told}
+use Rattle.log.specs.Calls.{shapeNumber, inOrder, acceptNumber, sessionNumber}
+use Rattle.log.specs.Finish.{expectedValue, finishNumber, Checked}
+use Rattle.log.specs.Runs.{Call, numberOf, after, historyFrom}
+use Rattle.log.specs.Runs.Call.{accept, finish}
 
 -- a type that may be there
 abbrev pub optional : Bool → ℕ → List ℕ
@@ -62,8 +67,7 @@ pub record Orderly (resumes : Bool) : Type 0 where
 -- the types of the accepted messages, the latest last; type 0 'is accepted anywhere' and is left out
 unfoldable pub typesOf : History → List ℕ
 typesOf fresh = []
-typesOf (accepted h m resumes) = pick (eqb (kindOf m) 0) (typesOf h) (typesOf h ++ (kindOf m ∷ []))
-typesOf (checked h m) = typesOf h
+typesOf (accepted h m b) = pick (eqb (kindOf m) 0) (typesOf h) (typesOf h ++ (kindOf m ∷ []))
 
 -- the same of a history, by what it was told: each message was in turn exactly if the types begin an order, and then both Finished are taken
 -- exactly if they are one
@@ -74,3 +78,38 @@ pub record Ordered (h : History) : Type 0 where
   pub only : inOrder h ≡ true → complete h ≡ true → List·Memᴰ (typesOf h) (orders (resumed h))
   -- the session hash: 'in a resumed log, it is 7'
   pub unhashed : inOrder h ≡ true → resumed h ≡ true → sessionNumber h ≡ 7
+
+-- Over both calls, on a history in order. The accepting call takes a well-formed message exactly if its type leads on along an order and is
+-- not 20; the joined call takes type 20 exactly if that leads on and the value is the expected one.
+pub record BothCalls (h : History) : Type 0 where
+  pub accepts : (m : List ℕ) (resumes : Bool) → shapeNumber m ≡ 0 → (kindOf m ≡ 20 → ⊥)
+      → Begins (resumed (accepted h m (told resumes))) (typesOf (accepted h m (told resumes))) → acceptNumber h m resumes ≡ 0
+  pub accepts-only : (m : List ℕ) (resumes : Bool) → acceptNumber h m resumes ≡ 0
+      → (kindOf m ≡ 20 → ⊥) × Begins (resumed (accepted h m (told resumes))) (typesOf (accepted h m (told resumes)))
+  pub finishes : (secret m : List ℕ) → length secret ≡ 48 → shapeNumber m ≡ 0 → kindOf m ≡ 20 → bodyOf m ≡ expectedValue h secret
+      → Begins (resumed h) (typesOf h ++ (20 ∷ [])) → finishNumber h secret m ≡ 0
+  pub finishes-only : (secret m : List ℕ) → finishNumber h secret m ≡ 0
+      → Checked h m secret × Begins (resumed h) (typesOf h ++ (20 ∷ []))
+
+-- each call is answered 0
+unfoldable pub AllTaken : History → List Call → Type 0
+AllTaken h [] = Unit {0}
+AllTaken h (c ∷ cs) = (numberOf h c ≡ 0) × AllTaken (after h c) cs
+
+-- the joined call is handed this secret, wherever it is called
+unfoldable pub Under : List ℕ → List Call → Type 0
+Under secret [] = Unit {0}
+Under secret (accept m resumes ∷ cs) = Under secret cs
+Under secret (finish other m ∷ cs) = (other ≡ secret) × Under secret cs
+
+-- And every order is completed, under any secret of 48 bytes, by calls that are all answered 0.
+pub record Completed (resumes : Bool) (l secret : List ℕ) : Type 0 where
+  pub calls : List Call
+  pub taken : AllTaken fresh calls
+  pub under : Under secret calls
+  pub types : typesOf (historyFrom fresh calls) ≡ l
+  pub told : resumed (historyFrom fresh calls) ≡ resumes
+  pub complete : complete (historyFrom fresh calls) ≡ true
+
+abbrev pub EveryOrder : Type 0
+EveryOrder = (resumes : Bool) (l secret : List ℕ) → length secret ≡ 48 → List·Memᴰ l (orders resumes) → Completed resumes l secret

@@ -10,11 +10,10 @@ use Rattle.refusal.specs.Table.{refusalOf}
 use Rattle.refusal.specs.Listed.{Listed}
 use Rattle.log.specs.History.{History}
 use Rattle.log.specs.Calls.{acceptNumber, afterAccept, sessionHashOf}
-use Rattle.log.specs.Check.{checkNumber, afterCheck, expectedOf}
+use Rattle.log.specs.Finish.{finishNumber, afterFinish, expectedOf}
 use Rattle.log.specs.Stands.{Stands}
 use Rattle.log.specs.declared.state.Log.{Log}
 use Rattle.log.specs.declared.answers.Accepted.{Accepted}
-use Rattle.log.specs.declared.answers.Checked.{Checked}
 use Rattle.log.specs.declared.answers.SessionHash.{SessionHash}
 use Rattle.log.specs.declared.answers.Expected.{Expected}
 
@@ -24,11 +23,11 @@ pub record Accepts (log : Log) (m : List ℕ) (resumes : Bool) (r : Accepted) : 
   pub refusal : (h : History) → Stands log h → r .refusal ≡ refusalOf (acceptNumber h m resumes)
   pub stands : (h : History) → Stands log h → Stands (r .log) (afterAccept h m resumes)
 
-pub record Checks (log : Log) (secret m : List ℕ) (r : Checked) : Type 0 where
+pub record Finishes (log : Log) (secret m : List ℕ) (r : Accepted) : Type 0 where
   pub listed : Listed (r .refusal)
   pub kept : (r .refusal .number ≡ 0 → ⊥) → r .log ≡ log
-  pub refusal : (h : History) → Stands log h → r .refusal ≡ refusalOf (checkNumber h secret m)
-  pub stands : (h : History) → Stands log h → Stands (r .log) (afterCheck h secret m)
+  pub refusal : (h : History) → Stands log h → r .refusal ≡ refusalOf (finishNumber h secret m)
+  pub stands : (h : History) → Stands log h → Stands (r .log) (afterFinish h secret m)
 
 pub record Hashes (log : Log) (r : SessionHash) : Type 0 where
   pub listed : Listed (r .refusal)

@@ -2,18 +2,15 @@
 -- Assumes nothing.
 use mathlib.Core.Path.{_≡_}
 use mathlib.Core.Bool.{true}
-use mathlib.Core.List.{List, _∷_}
-use mathlib.Core.Option.{Option, none, some}
 use Prim.Native.Nat.{ℕ, _*_, _≤_}
-use lib.Dec.{eqb}
 use lib.ListN.{length}
-use Rattle.seqs.specs.Pick.{pick}
 use Rattle.sha256.specs.Running.{Running}
 use Rattle.log.specs.Order.{Place}
 use Rattle.log.specs.Order.Place.{beginning, clientHello, serverHello, serverCertificate, serverKeyExchange, certificateRequest, helloDone, helloDoneRequested, clientCertificate, keyExchange, keyExchangeCertified, certificateVerify, clientFirst, completeFull, resumingHello, serverFirst, completeResumed, nowhere}
-use Rattle.log.specs.History.{History, placeOf, hashed, sessionHash, remembered, verifyDataOf}
+use Rattle.log.specs.History.{History, placeOf, hashed, sessionHash, verifyDataOf}
 use Rattle.log.specs.History.Side.{client, server}
 use Rattle.log.specs.Calls.{inOrder}
+use Rattle.log.specs.Finish.{Compared}
 use Rattle.log.specs.declared.state.Log.{Log}
 
 -- the number that a log has for a place; they rise along the order
@@ -42,14 +39,6 @@ pub record Placed (n : ℕ) (h : History) : Type 0 where
   pub number : n ≡ number (placeOf h)
   pub order : inOrder h ≡ true
 
--- the Finished message with this verify_data
-unfoldable pub finishedWith : List ℕ → List ℕ
-finishedWith value = 20 ∷ 0 ∷ 0 ∷ 12 ∷ value
-
--- the Finished message that a log remembers
-unfoldable pub memory : Log → Option (List ℕ)
-memory log = pick (eqb (log .checked) 0) none (some (finishedWith (log .value)))
-
 pub record Stands (log : Log) (h : History) : Type 0 where
   pub place : Placed (log .place) h
   pub hash : Running (log .hash) (hashed h)
@@ -57,6 +46,7 @@ pub record Stands (log : Log) (h : History) : Type 0 where
   -- is never reached
   pub short : length (hashed h) ≤ 16388 * number (placeOf h)
   pub session : log .session ≡ sessionHash h
-  pub checked : memory log ≡ remembered h
   pub client : log .client ≡ verifyDataOf client h
   pub server : log .server ≡ verifyDataOf server h
+  -- no Finished is in it but such as were checked
+  pub compared : Compared h

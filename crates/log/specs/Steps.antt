@@ -7,10 +7,11 @@ use Prim.Native.Nat.{ℕ, _≤_}
 use lib.ListN.{length}
 use Rattle.message.specs.Frame.{kindOf, bodyOf}
 use Rattle.log.specs.Order.{turns, look, isDue, finishedDue}
-use Rattle.log.specs.History.{History, placeOf}
+use Rattle.log.specs.History.{Beside, History, tells, placeOf}
 use Rattle.log.specs.History.History.{accepted}
+use Rattle.log.specs.History.Beside.{told, under}
 use Rattle.log.specs.Calls.{shapeNumber, acceptNumber}
-use Rattle.log.specs.Check.{checkNumber}
+use Rattle.log.specs.Finish.{finishNumber, Checked}
 use Rattle.log.specs.Stands.{Stands, number}
 use Rattle.log.specs.declared.shape.Judged.{Judged}
 use Rattle.log.specs.declared.state.Log.{Log}
@@ -20,58 +21,38 @@ pub record Judges (m : List ℕ) (r : Judged) : Type 0 where
   pub number : r .number ≡ shapeNumber m
   pub kind : r .number ≡ 0 → r .kind ≡ kindOf m
 
--- a log that remembers no Finished
-abbrev pub forgetting : Log → Log
-forgetting log =
-    record {
-      hash = log .hash;
-      place = log .place;
-      session = log .session;
-      checked = 0;
-      value = log .value;
-      client = log .client;
-      server = log .server;
-    }
-
--- a log that remembers the Finished with this verify_data
-abbrev pub remembering : Log → List ℕ → Log
-remembering log value =
-    record {
-      hash = log .hash;
-      place = log .place;
-      session = log .session;
-      checked = 1;
-      value = value;
-      client = log .client;
-      server = log .server;
-    }
-
 -- a message that is in turn: what is known of it before it is taken
-pub record InTurn (log : Log) (h : History) (m : List ℕ) (resumes : Bool) (k p : ℕ) : Type 0 where
+pub record InTurn (h : History) (m : List ℕ) (b : Beside) (k p : ℕ) : Type 0 where
   pub kind : k ≡ kindOf m
   pub hashed : k ≡ 0 → ⊥
-  pub place : p ≡ number (look (kindOf m) (turns resumes (placeOf h)))
-  pub due : isDue (kindOf m) (turns resumes (placeOf h)) ≡ true
+  pub place : p ≡ number (look (kindOf m) (turns (tells b) (placeOf h)))
+  pub due : isDue (kindOf m) (turns (tells b) (placeOf h)) ≡ true
   pub size : length m ≤ 16388
-  pub value : k ≡ 20 → log .value ≡ bodyOf m
 
--- what is to be done with a message: its number, and where that is 0 a HelloRequest or a message that is in turn
+-- what is to be done with a message: its number, and where that is 0 a HelloRequest or a message that is in turn, and no Finished
 pub record TurnOf (log : Log) (m : List ℕ) (resumes : Bool) (t : Turn) : Type 0 where
   pub within : t .number ≤ 11
   pub number : (h : History) → Stands log h → acceptNumber h m resumes ≡ t .number
+  pub other : t .number ≡ 0 → kindOf m ≡ 20 → ⊥
   pub request : t .number ≡ 0 → t .kind ≡ 0 → kindOf m ≡ 0
-  pub in-turn : t .number ≡ 0 → (t .kind ≡ 0 → ⊥) → (h : History) → Stands log h → InTurn log h m resumes (t .kind) (t .place)
+  pub in-turn : t .number ≡ 0 → (t .kind ≡ 0 → ⊥) → (h : History) → Stands log h → InTurn h m (told resumes) (t .kind) (t .place)
 
--- the log that has accepted it
-pub record LogAfter (log : Log) (m : List ℕ) (k p : ℕ) (r : Log) : Type 0 where
-  pub request : k ≡ 0 → kindOf m ≡ 0 → (h : History) (resumes : Bool) → Stands log h → Stands r (accepted h m resumes)
-  pub taken : (k ≡ 0 → ⊥) → (h : History) (resumes : Bool) → Stands log h → InTurn log h m resumes k p → Stands r (accepted h m resumes)
+-- the log that has taken one in turn
+abbrev pub LogAfter : Log → List ℕ → ℕ → ℕ → Log → Type 0
+LogAfter log m k p r =
+    (h : History) (resumes : Bool) → Stands log h → (kindOf m ≡ 20 → ⊥) → InTurn h m (told resumes) k p → Stands r (accepted h m (told resumes))
 
 -- what is asked of a Finished before its value: refused by n, or a Finished that is due
 pub record Asks (log : Log) (secret m : List ℕ) (n : ℕ) : Type 0 where
   pub within : n ≤ 11
-  pub refused : (n ≡ 0 → ⊥) → (h : History) → Stands log h → checkNumber h secret m ≡ n
+  pub refused : (n ≡ 0 → ⊥) → (h : History) → Stands log h → finishNumber h secret m ≡ n
   pub sized : n ≡ 0 → length secret ≡ 48
   pub shape : n ≡ 0 → shapeNumber m ≡ 0
   pub kind : n ≡ 0 → kindOf m ≡ 20
   pub due : n ≡ 0 → (h : History) → Stands log h → finishedDue (placeOf h) ≡ true
+
+-- the log that has taken a Finished, with this verify_data
+abbrev pub Takes : Log → List ℕ → List ℕ → Log → Type 0
+Takes log m value r =
+    (h : History) (secret : List ℕ) → Stands log h → length m ≤ 16388 → finishedDue (placeOf h) ≡ true → Checked h m secret → bodyOf m ≡ value
+    → Stands r (accepted h m (under secret))

@@ -38,9 +38,6 @@ pub struct Log {
     pub place: u8,
     // the session hash, once there is one
     pub session: [u8; 32],
-    // does the log remember a Finished that was checked equal, and its verify_data
-    pub checked: u8,
-    pub value: [u8; 12],
     // verify_data of each side's Finished, once it is taken
     pub client: [u8; 12],
     pub server: [u8; 12],
@@ -55,14 +52,13 @@ impl Log {
             hash,
             place: order::BEGINNING,
             session: [0; 32],
-            checked: 0,
-            value: [0; 12],
             client: [0; 12],
             server: [0; 12],
         }
     }
 
-    // The next message, and whether it resumes: that is told with a ServerHello, and counts with it alone.
+    // The next message, and whether it resumes: that is told with a ServerHello, and counts with it alone. A HelloRequest leaves the log
+    // as it is, and a Finished goes to `finish`.
     pub fn accept(self, message: &[u8], resumes: bool) -> Accepted
         ensures { λ r. ⌜ Accepts self (now (message .entry)) resumes r ⌝ }
     {
@@ -70,6 +66,9 @@ impl Log {
         let refusal = refusal::refuse(turn.number);
         let mut r = Accepted { refusal, log: self };
         if turn.number != 0 {
+            return r;
+        }
+        if turn.kind == shape::HELLO_REQUEST {
             return r;
         }
         r.log = self.after(message, turn.kind, turn.place);
@@ -96,22 +95,15 @@ impl Log {
                 place: 0,
             };
         }
-        let place = order::next(self.place, kind, resumes);
-        if place == order::NOWHERE {
+        if kind == shape::FINISHED {
             return Turn {
                 number: 7,
                 kind,
-                place,
+                place: 0,
             };
         }
-        if kind == shape::FINISHED {
-            if self.remembers(message) {
-                return Turn {
-                    number: 0,
-                    kind,
-                    place,
-                };
-            }
+        let place = order::next(self.place, kind, resumes);
+        if place == order::NOWHERE {
             return Turn {
                 number: 7,
                 kind,
@@ -125,45 +117,16 @@ impl Log {
         }
     }
 
-    // Is this the Finished that was last checked equal?
-    fn remembers(self, message: &[u8]) -> bool
-        requires { ⌜ 4 ≤ length (now message) ⌝ }
-        ensures { λ r. ⌜ r ≡ pick (eqb (self .checked) 0) false (same (bodyOf (now (message .entry))) (self .value)) ⌝ }
-    {
-        if self.checked == 0 {
-            return false;
-        }
-        let value = self.value;
-        shape::carries(message, value)
-    }
-
-    // A message that is in turn is hashed, a HelloRequest is not. Either way what was checked is forgotten.
+    // The log that has taken a message in turn.
     fn after(mut self, message: &[u8], kind: u8, place: u8) -> Log
         ensures { λ r. ⌜ LogAfter self (now (message .entry)) kind place r ⌝ }
     {
-        self.checked = 0;
-        if kind == shape::HELLO_REQUEST {
-            return self;
-        }
         self.hash = self.hash.more(message);
+        self.place = place;
         if kind == shape::CLIENT_KEY_EXCHANGE {
             let session = self.hash.digest();
             self.session = session;
-            self.place = place;
-            return self;
         }
-        if kind == shape::FINISHED {
-            let value = self.value;
-            if order::from_server(self.place) {
-                self.server = value;
-                self.place = place;
-                return self;
-            }
-            self.client = value;
-            self.place = place;
-            return self;
-        }
-        self.place = place;
         self
     }
 

@@ -1,6 +1,6 @@
 -- The two refusals, and what is expected.
 -- Assumes nothing.
-use Rattle.log.proofs.Checking.{secret-expects, due-expects, done-expects}
+use Rattle.log.proofs.Finishing.{secret-expects, due-expects, done-expects}
 use borrow.Author.Needs.{needs}
 use Rattle.log.proofs.state.Log.expected_finished.Statement.{statement}
 use Rattle.log.proofs.state.Log.expected_finished.Tie as tie

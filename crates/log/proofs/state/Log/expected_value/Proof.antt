@@ -1,7 +1,7 @@
 -- The PRF, over the hash of the log.
 -- Assumes nothing.
 use Rattle.log.specs.History.{hashed}
-use Rattle.log.proofs.Checking.{expected-by}
+use Rattle.log.proofs.Finishing.{expected-by}
 use borrow.Author.Needs.{needs}
 use Rattle.log.proofs.state.Log.expected_value.Statement.{statement}
 use Rattle.log.proofs.state.Log.expected_value.Tie as tie

@@ -1,8 +1,6 @@
 -- Each way out is a number, or a message that is in turn.
 -- Assumes nothing.
-use mathlib.Core.Path.{sym, _∙_}
-use Rattle.log.proofs.Messages.{fine}
-use Rattle.log.proofs.Accepting.{shape-turn, request-turn, out-turn, finished-turn, unchecked-turn, other-turn}
+use Rattle.log.proofs.Accepting.{shape-turn, request-turn, finished-turn, out-turn, other-turn}
 use borrow.Author.Needs.{needs}
 use Rattle.log.proofs.state.Log.turn.Statement.{statement}
 use Rattle.log.proofs.state.Log.turn.Tie as tie
@@ -16,34 +14,17 @@ returns c = shape-turn _ _ _ (c .before .before .judge .result) (c .before .befo
 returns-2 : tie.Need-returns-2
 returns-2 c = request-turn _ _ _ (c .before .before .before .judge .result) (c .before .before .before .judge .ensures) (c .before .if1 .left) (c .if2 .taken)
 
+returns-3 : tie.Need-returns-3
+returns-3 c = finished-turn _ _ _ (c .before .before .before .before .judge .result) (c .before .before .before .before .judge .ensures) (c .before .before .if1 .left) (c .if3 .taken)
+
 next-requires : tie.Need-next-requires
 next-requires c κs = search needs
 
-returns-3 : tie.Need-returns-3
-returns-3 c = out-turn _ _ _ (c .before .before .before .before .before .judge .result) (c .before .before .before .before .before .judge .ensures) (c .before .before .before .if1 .left) (c .before .before .if2 .left) _ (c .before .next .ensures) (c .if3 .taken)
-
-remembers-requires : tie.Need-remembers-requires
-remembers-requires c κs = fine _ (sym (c .before .before .before .before .before .before .judge .ensures .number) ∙ c .before .before .before .before .if1 .left) .shortest
-
 returns-4 : tie.Need-returns-4
-returns-4 c = finished-turn _ _ _ (c .before .before .before .before .before .before .before .before .judge .result) (c .before .before .before .before .before .before .before .before .judge .ensures) (c .before .before .before .before .before .before .if1 .left) (c .before .before .before .before .before .if2 .left) _ (c .before .before .before .before .next .ensures) (c .before .before .before .if3 .left) (c .before .before .if4 .taken) _ (c .before .remembers .ensures) (c .if5 .taken)
+returns-4 c = out-turn _ _ _ (c .before .before .before .before .before .before .judge .result) (c .before .before .before .before .before .before .judge .ensures) (c .before .before .before .before .if1 .left) (c .before .before .before .if2 .left) (c .before .before .if3 .left) _ (c .before .next .ensures) (c .if4 .taken)
 
 returns-5 : tie.Need-returns-5
-returns-5 c = unchecked-turn _ _ _ (c .before .before .before .before .before .before .before .before .judge .result) (c .before .before .before .before .before .before .before .before .judge .ensures) (c .before .before .before .before .before .before .if1 .left) (c .before .before .before .before .before .if2 .left) _ (c .before .before .before .before .next .ensures) (c .before .before .before .if3 .left) (c .before .before .if4 .taken) _ (c .before .remembers .ensures) (c .if5 .left)
-
-returns-6 : tie.Need-returns-6
-returns-6 c = other-turn _ _ _ (c .before .before .before .before .before .before .judge .result) (c .before .before .before .before .before .before .judge .ensures) (c .before .before .before .before .if1 .left) (c .before .before .before .if2 .left) _ (c .before .before .next .ensures) (c .before .if3 .left) (c .if4 .left)
+returns-5 c = other-turn _ _ _ (c .before .before .before .before .before .before .judge .result) (c .before .before .before .before .before .before .judge .ensures) (c .before .before .before .before .if1 .left) (c .before .before .before .if2 .left) (c .before .before .if3 .left) _ (c .before .next .ensures) (c .if4 .left)
 
 pub turn-spec : {M : Type 1} → statement M
-turn-spec =
-    tie.close
-    (tie.spec
-    judge-requires
-    returns
-    returns-2
-    next-requires
-    returns-3
-    remembers-requires
-    returns-4
-    returns-5
-    returns-6)
+turn-spec = tie.close (tie.spec judge-requires returns returns-2 returns-3 next-requires returns-4 returns-5)

@@ -1,5 +1,5 @@
-// The check of a Finished, and what is expected of it.
-use crate::answers::Checked;
+// A Finished: what is expected of it, and the one call that checks and takes it.
+use crate::answers::Accepted;
 use crate::answers::Expected;
 use crate::order;
 use crate::shape;
@@ -8,44 +8,52 @@ ghost use mathlib.Core.Path.{_≡_};
 ghost use lib.ListN.{length, replicate};
 ghost use Rattle.refusal.specs.Table.{refusalOf};
 ghost use Rattle.log.specs.History.{History};
-ghost use Rattle.log.specs.Check.{expectedValue};
+ghost use Rattle.log.specs.Finish.{expectedValue};
 ghost use Rattle.log.specs.Stands.{Stands};
-ghost use Rattle.log.specs.Promise.{Checks, Expects};
-ghost use Rattle.log.specs.Steps.{Asks, remembering};
+ghost use Rattle.log.specs.Promise.{Finishes, Expects};
+ghost use Rattle.log.specs.Steps.{Asks, Takes};
 
 // How long a master secret is.
 const SECRET: usize = 48;
 
 impl Log {
-    // Is this the Finished that is due? The log remembers it, and only what it remembers is accepted.
-    pub fn check_finished(self, secret: &[u8], message: &[u8]) -> Checked
-        ensures { λ r. ⌜ Checks self (now (secret .entry)) (now (message .entry)) r ⌝ }
+    // The Finished that is due is checked and taken, or refused.
+    pub fn finish(self, secret: &[u8], message: &[u8]) -> Accepted
+        ensures { λ r. ⌜ Finishes self (now (secret .entry)) (now (message .entry)) r ⌝ }
     {
-        let number = self.check_number(secret, message);
+        let number = self.finish_number(secret, message);
         let refusal = refusal::refuse(number);
-        let mut r = Checked { refusal, log: self };
+        let mut r = Accepted { refusal, log: self };
         if number != 0 {
             return r;
         }
         let value = self.expected_value(secret);
-        if shape::carries(message, value) {
-            r.log = self.remembering(value);
+        let equal = shape::carries(message, value);
+        if !equal {
+            r.refusal = refusal::refuse(8);
             return r;
         }
-        r.refusal = refusal::refuse(8);
+        r.log = self.taking(message, value);
         r
     }
 
-    fn remembering(mut self, value: [u8; 12]) -> Log
-        ensures { λ r. ⌜ r ≡ remembering self value ⌝ }
+    // The log that has taken a Finished with this verify_data.
+    fn taking(mut self, message: &[u8], value: [u8; 12]) -> Log
+        ensures { λ r. ⌜ Takes self (now (message .entry)) value r ⌝ }
     {
-        self.checked = 1;
-        self.value = value;
+        let server = order::from_server(self.place);
+        self.hash = self.hash.more(message);
+        self.place = order::next(self.place, shape::FINISHED, false);
+        if server {
+            self.server = value;
+            return self;
+        }
+        self.client = value;
         self
     }
 
     // What is asked before the value is computed.
-    fn check_number(self, secret: &[u8], message: &[u8]) -> u8
+    fn finish_number(self, secret: &[u8], message: &[u8]) -> u8
         ensures { λ r. ⌜ Asks self (now (secret .entry)) (now (message .entry)) r ⌝ }
     {
         if secret.len() != SECRET {

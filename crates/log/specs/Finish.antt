@@ -1,5 +1,7 @@
--- The check of a Finished, and what is expected of it (document 01, 'The message log'; RFC 5246, section 7.4.9).
+-- A Finished: what is expected of it, and the one call that checks and takes it (document 01, 'The message log'; order 6; RFC 5246,
+-- section 7.4.9).
 -- Assumes nothing.
+use mathlib.Core.Path.{_≡_}
 use mathlib.Core.Bool.{not, _&&_}
 use mathlib.Core.List.{List, [], _∷_}
 use Prim.Native.Nat.{ℕ}
@@ -15,8 +17,9 @@ use Rattle.prf.specs.Hash.{SHA256}
 use Rattle.prf.specs.Secrets.{verifyData}
 use Rattle.log.specs.Order.{finishedDue}
 use Rattle.log.specs.History.{History, placeOf, hashed, fromServer}
-use Rattle.log.specs.History.History.{checked}
-use Rattle.log.specs.Calls.{misshapen}
+use Rattle.log.specs.History.History.{fresh, accepted}
+use Rattle.log.specs.History.Beside.{told, under}
+use Rattle.log.specs.Calls.{misshapen, isFinished}
 use Rattle.log.specs.declared.answers.Expected.{Expected}
 
 -- 'expected is PRF(secret, "client finished" or "server finished", hash of the log so far), first 12 bytes'
@@ -35,17 +38,31 @@ expectedOf h secret =
       value = pick (eqb (expectedNumber h secret) 0) (expectedValue h secret) (replicate 12 0);
     }
 
--- 'The check needs a 48-byte secret (else 10) and a message of type 20 that is due (else 7)'; 8: Finished value differs
-unfoldable pub checkNumber : History → List ℕ → List ℕ → ℕ
-checkNumber h secret m =
+-- 'one call of the two: it checks the value and takes the message, or refuses': 'a 48-byte secret (else 10) and a message of type 20 that
+-- is due (else 7)'; 8: Finished value differs
+unfoldable pub finishNumber : History → List ℕ → List ℕ → ℕ
+finishNumber h secret m =
     firstOf
     ((10, not (eqb (length secret) 48))
     ∷ (10, overlong m)
     ∷ (1, misstated m)
     ∷ (1, misshapen m)
-    ∷ (7, not (eqb (kindOf m) 20 && finishedDue (placeOf h)))
+    ∷ (7, not (isFinished m && finishedDue (placeOf h)))
     ∷ (8, not (same (bodyOf m) (expectedValue h secret)))
     ∷ [])
 
-unfoldable pub afterCheck : History → List ℕ → List ℕ → History
-afterCheck h secret m = pick (eqb (checkNumber h secret m) 0) (checked h m) h
+-- 'and leaves the log'
+unfoldable pub afterFinish : History → List ℕ → List ℕ → History
+afterFinish h secret m = pick (eqb (finishNumber h secret m) 0) (accepted h m (under secret)) h
+
+-- a Finished that was checked: it carries the expected value of its moment, the history before it, under the secret of that very call
+pub record Checked (h : History) (m secret : List ℕ) : Type 0 where
+  pub kind : kindOf m ≡ 20
+  pub sized : length secret ≡ 48
+  pub value : bodyOf m ≡ expectedValue h secret
+
+-- was each Finished checked? From fresh by the calls there is no other history.
+unfoldable pub Compared : History → Type 0
+Compared fresh = Unit {0}
+Compared (accepted h m (told resumes)) = (kindOf m ≡ 20 → ⊥) × Compared h
+Compared (accepted h m (under secret)) = Checked h m secret × Compared h

@@ -1,0 +1,236 @@
+-- The orders over both calls: what each of them takes, and that every order is completed by them.
+-- Assumes nothing.
+use mathlib.Core.Path.{_≡_, refl, sym, _∙_, ap}
+use mathlib.Core.Bool.{Bool, true, false, not, _&&_, _||_}
+use mathlib.Core.List.{List, [], _∷_, _++_, append-assoc, append-nil, List·Memᴰ, List·Memᴰ·head, List·Memᴰ·tail}
+use Prim.Native.Nat.{ℕ}
+use native.Mathlib.Omega.{arith}
+use lib.Dec.{eqb}
+use lib.ListN.{length}
+use borrow.Author.Tests.{eqb-true, eqb-false, ne-eqb, not-true, not-false}
+use Rattle.seqs.specs.Pick.{pick}
+use Rattle.seqs.specs.Cases.{by-test, not-both, and-left, and-right}
+use Rattle.refusal.specs.First.{firstOf}
+use Rattle.refusal.proofs.First.{first-zero}
+use Rattle.octets.specs.Same.{same}
+use Rattle.octets.specs.Equal.{same-true, same-refl}
+use Rattle.message.specs.Numbers.{byteAt, pairAt, tripleAt}
+use Rattle.message.specs.Frame.{kindOf, bodyOf, overlong, misstated}
+use Rattle.prf.proofs.Sha256.{sha256-lawful}
+use Rattle.prf.proofs.Lengths.{length-verify}
+use Rattle.log.specs.Order.{Place, turns, isDue, look, finishedDue}
+use Rattle.log.specs.Order.Place.{beginning}
+use Rattle.log.specs.History.{Beside, History, tells, placeOf, resumed, complete}
+use Rattle.log.specs.History.History.{fresh, accepted}
+use Rattle.log.specs.History.Beside.{told, under}
+use Rattle.log.specs.Calls.{wrongBody, misshapen, shapeNumber, outOfTurn, inOrder, isFinished, acceptNumber, afterAccept}
+use Rattle.log.specs.Finish.{expectedValue, finishNumber, afterFinish, Checked}
+use Rattle.log.specs.Stands.{number, Placed}
+use Rattle.log.specs.Runs.{Call, numberOf, after, historyFrom}
+use Rattle.log.specs.Runs.Call.{accept, finish}
+use Rattle.log.specs.Orders.{orders, Begins, walk, walks, typesOf, BothCalls, AllTaken, Under, EveryOrder}
+use Rattle.log.proofs.Turns.{passes, each-place, resumedAt}
+use Rattle.log.proofs.Places.{placed-says, complete-by}
+use Rattle.log.proofs.Messages.{fine}
+use Rattle.log.proofs.Accepting.{accept-turn, accept-by}
+use Rattle.log.proofs.Finishing.{finish-due}
+use Rattle.log.proofs.Orders.{orderly}
+use Rattle.log.proofs.Histories.{told-by, ordered}
+
+-- ---- what each call takes
+
+module _ (h : History) (o : inOrder h ≡ true) where
+  accepts : (m : List ℕ) (resumes : Bool) → shapeNumber m ≡ 0 → (kindOf m ≡ 20 → ⊥)
+      → Begins (resumed (accepted h m (told resumes))) (typesOf (accepted h m (told resumes))) → acceptNumber h m resumes ≡ 0
+  unfolding inOrder tells isFinished
+  accepts m resumes f k b =
+      let i : inOrder (accepted h m (told resumes)) ≡ true = ordered (accepted h m (told resumes)) .along b in
+      accept-turn m resumes h (fine m f) false false (ne-eqb (kindOf m) 20 k) (not-true _ (and-left (not (outOfTurn h m resumes)) (inOrder h) i))
+
+  accepts-only : (m : List ℕ) (resumes : Bool) → acceptNumber h m resumes ≡ 0
+      → (kindOf m ≡ 20 → ⊥) × Begins (resumed (accepted h m (told resumes))) (typesOf (accepted h m (told resumes)))
+  unfolding acceptNumber inOrder tells isFinished
+  accepts-only m resumes e =
+      let none = first-zero ((10, overlong m) ∷ (1, misstated m) ∷ (1, misshapen m) ∷ (7, isFinished m) ∷ (7, outOfTurn h m resumes) ∷ []) refl e in
+      (eqb-false (kindOf m) 20 (none .1 .1 .1 .0), ordered (accepted h m (told resumes)) .begins (rw (none .1 .1 .1 .1 .0, o)))
+
+  -- type 20 leads on along an order exactly where a Finished is due
+  due-along : (secret m : List ℕ) → kindOf m ≡ 20 → Begins (resumed h) (typesOf h ++ (20 ∷ [])) → finishedDue (placeOf h) ≡ true
+  unfolding inOrder outOfTurn tells resumed typesOf finishedDue
+  due-along secret m k b =
+      let i : inOrder (accepted h m (under secret)) ≡ true = ordered (accepted h m (under secret)) .along (rw k b) in
+      let d : not (outOfTurn h m false) ≡ true = and-left (not (outOfTurn h m false)) (inOrder h) i in
+      let e : not (isDue 20 (turns false (placeOf h))) ≡ false = rw k at (not-true (outOfTurn h m false) d) in
+      not-false _ e
+
+  along-due : (secret m : List ℕ) → kindOf m ≡ 20 → finishedDue (placeOf h) ≡ true → Begins (resumed h) (typesOf h ++ (20 ∷ []))
+  unfolding inOrder outOfTurn tells resumed typesOf finishedDue
+  along-due secret m k d =
+      let i : inOrder (accepted h m (under secret)) ≡ true = rw (k, d, o) in
+      rw k at (ordered (accepted h m (under secret)) .begins i)
+
+  finishes : (secret m : List ℕ) → length secret ≡ 48 → shapeNumber m ≡ 0 → kindOf m ≡ 20 → bodyOf m ≡ expectedValue h secret
+      → Begins (resumed h) (typesOf h ++ (20 ∷ [])) → finishNumber h secret m ≡ 0
+  unfolding isFinished
+  finishes secret m n f k v b =
+      finish-due secret m h n (fine m f) true true (rw (k, due-along secret m k b)) (rw v (same-refl (expectedValue h secret)))
+
+  finishes-only : (secret m : List ℕ) → finishNumber h secret m ≡ 0
+      → Checked h m secret × Begins (resumed h) (typesOf h ++ (20 ∷ []))
+  unfolding finishNumber isFinished
+  finishes-only secret m e =
+      let none =
+      first-zero
+      ((10, not (eqb (length secret) 48))
+      ∷ (10, overlong m)
+      ∷ (1, misstated m)
+      ∷ (1, misshapen m)
+      ∷ (7, not (isFinished m && finishedDue (placeOf h)))
+      ∷ (8, not (same (bodyOf m) (expectedValue h secret)))
+      ∷ [])
+      refl e in
+      let t = not-false _ (none .1 .1 .1 .1 .0) in
+      let k : kindOf m ≡ 20 = eqb-true (kindOf m) 20 (and-left (isFinished m) (finishedDue (placeOf h)) t) in (
+        record {
+          kind = k;
+          sized = eqb-true (length secret) 48 (not-false _ (none .0));
+          value = same-true (bodyOf m) (expectedValue h secret) (not-false _ (none .1 .1 .1 .1 .1 .0));
+        },
+        along-due secret m k (and-right (isFinished m) (finishedDue (placeOf h)) t),
+      )
+
+pub both-calls : (h : History) → inOrder h ≡ true → BothCalls h
+both-calls h o =
+    record { accepts = accepts h o; accepts-only = accepts-only h o; finishes = finishes h o; finishes-only = finishes-only h o }
+
+-- ---- every order is completed
+
+-- no place has type 0 in turn
+none-hashed : (resumes : Bool) (p : Place) → isDue 0 (turns resumes p) ≡ false
+unfolding passes turns isDue
+none-hashed true p = not-true _ (each-place (λ q. not (isDue 0 (turns true q))) refl p)
+none-hashed false p = not-true _ (each-place (λ q. not (isDue 0 (turns false q))) refl p)
+
+length-expected : (h : History) (secret : List ℕ) → length (expectedValue h secret) ≡ 12
+unfolding expectedValue
+length-expected h secret = length-verify sha256-lawful secret _ _
+
+-- one call that is answered 0 and leads on by a type
+record Goes (resumes : Bool) (secret : List ℕ) (h : History) (kind : ℕ) : Type 0 where
+  call : Call
+  taken : numberOf h call ≡ 0
+  under : Under secret (call ∷ [])
+  order : inOrder (after h call) ≡ true
+  types : typesOf (after h call) ≡ typesOf h ++ (kind ∷ [])
+  place : placeOf (after h call) ≡ look kind (turns resumes (placeOf h))
+
+-- and several, by several types
+record Gone (resumes : Bool) (secret : List ℕ) (h : History) (rest : List ℕ) : Type 0 where
+  calls : List Call
+  taken : AllTaken h calls
+  under : Under secret calls
+  order : inOrder (historyFrom h calls) ≡ true
+  types : typesOf (historyFrom h calls) ≡ typesOf h ++ rest
+  place : placeOf (historyFrom h calls) ≡ walk resumes (placeOf h) rest
+
+module _ (resumes : Bool) (secret : List ℕ) (n : length secret ≡ 48) where
+  module _ (h : History) (o : inOrder h ≡ true) (kind : ℕ) (d : isDue kind (turns resumes (placeOf h)) ≡ true) where
+    hashed-type : kind ≡ 0 → ⊥
+    hashed-type e = not-both (rw e at d) (none-hashed resumes (placeOf h))
+
+    goes-by : (c : Call) (m : List ℕ) (b : Beside) → numberOf h c ≡ 0 → after h c ≡ accepted h m b → Under secret (c ∷ []) → kindOf m ≡ kind
+        → isDue kind (turns (tells b) (placeOf h)) ≡ true → look kind (turns (tells b) (placeOf h)) ≡ look kind (turns resumes (placeOf h))
+        → Goes resumes secret h kind
+    unfolding inOrder outOfTurn typesOf placeOf
+    goes-by c m b z e u k t x =
+        let f : eqb kind 0 ≡ false = ne-eqb kind 0 hashed-type in
+        record {
+          call = c;
+          taken = z;
+          under = u;
+          order = rw (e, k, f, t) o;
+          types = rw (e, k, f);
+          place = rw (e, k, f) x;
+        }
+
+    -- a type that is in turn, but 20: a message without a body will do
+    other : (kind ≡ 20 → ⊥) → Goes resumes secret h kind
+    unfolding numberOf after afterAccept tells Under firstOf shapeNumber overlong misstated misshapen wrongBody kindOf bodyOf byteAt pairAt tripleAt
+    other k =
+        let m : List ℕ = kind ∷ 0 ∷ 0 ∷ 0 ∷ [] in
+        let f : shapeNumber m ≡ 0 = rw (ne-eqb kind 0 hashed-type, ne-eqb kind 20 k) in
+        let z : acceptNumber h m resumes ≡ 0 = accept-by m resumes h (fine m f) hashed-type k true d in
+        goes-by (accept m resumes) m (told resumes) z (rw z) tt refl d refl
+
+    -- a Finished with what is expected of it
+    finished : kind ≡ 20 → Goes resumes secret h kind
+    unfolding numberOf after afterFinish tells Under firstOf shapeNumber overlong misstated misshapen wrongBody isFinished finishedDue kindOf bodyOf byteAt pairAt tripleAt
+    finished k =
+        let m : List ℕ = 20 ∷ 0 ∷ 0 ∷ 12 ∷ expectedValue h secret in
+        let t = told-by resumes false (placeOf h) kind (λ x. omega (arith, k, x)) in
+        let e : isDue kind (turns false (placeOf h)) ≡ true = sym (t .0) ∙ d in
+        let f : shapeNumber m ≡ 0 = rw (length-expected h secret) in
+        let z : finishNumber h secret m ≡ 0 = finish-due secret m h n (fine m f) true true (rw k at e) (same-refl (expectedValue h secret)) in
+        goes-by (finish secret m) m (under secret) z (rw z) (refl, tt) (sym k) e (sym (t .1))
+
+    one : Goes resumes secret h kind
+    one = by-test (eqb kind 20) (λ e. finished (eqb-true kind 20 e)) (λ e. other (eqb-false kind 20 e))
+
+  before : (c : Call) (cs : List Call) → Under secret (c ∷ []) → Under secret cs → Under secret (c ∷ cs)
+  unfolding Under
+  before (accept m x) cs u v = v
+  before (finish x m) cs u v = (u .0, v)
+
+  all : (rest : List ℕ) (h : History) → inOrder h ≡ true → walks resumes (placeOf h) rest ≡ true → Gone resumes secret h rest
+  unfolding walks walk AllTaken Under historyFrom
+  all [] h o w = record { calls = []; taken = tt; under = tt; order = o; types = sym (append-nil (typesOf h)); place = refl }
+  all (kind ∷ rest) h o w =
+      let g = one h o kind (and-left (isDue kind (turns resumes (placeOf h))) _ w) in
+      let r = all rest (after h (g .call)) (g .order) (rw (g .place) (and-right (isDue kind (turns resumes (placeOf h))) _ w)) in
+      record {
+        calls = g .call ∷ r .calls;
+        taken = (g .taken, r .taken);
+        under = before (g .call) (r .calls) (g .under) (r .under);
+        order = r .order;
+        types = r .types ∙ (rw (g .types) (append-assoc (typesOf h) (kind ∷ []) rest));
+        place = r .place ∙ ap (λ (p : Place). walk resumes p rest) (g .place);
+      }
+
+each : (List ℕ → Bool) → List (List ℕ) → Bool
+each t [] = true
+each t (l ∷ ls) = t l && each t ls
+
+each-member : (t : List ℕ → Bool) (l : List ℕ) (ls : List (List ℕ)) → each t ls ≡ true → List·Memᴰ l ls → t l ≡ true
+unfolding each
+each-member t l (x ∷ ls) e (List·Memᴰ·head f) = rw f (and-left (t x) (each t ls) e)
+each-member t l (x ∷ ls) e (List·Memᴰ·tail m) = each-member t l ls (and-right (t x) (each t ls) e) m
+
+-- where an order ends
+ends : (resumes : Bool) (l : List ℕ) → List·Memᴰ l (orders resumes) → number (walk resumes beginning l) ≡ pick resumes 16 13
+unfolding each walk turns look number
+ends true l m = eqb-true _ 16 (each-member (λ x. eqb (number (walk true beginning x)) 16) l (orders true) refl m)
+ends false l m = eqb-true _ 13 (each-member (λ x. eqb (number (walk false beginning x)) 13) l (orders false) refl m)
+
+pub every-order : EveryOrder
+unfolding inOrder typesOf placeOf
+every-order resumes l secret n m =
+    let g = all resumes secret n l fresh refl (orderly resumes .along l ([], rw append-nil m)) in
+    let h = historyFrom fresh (g .calls) in
+    let e : number (placeOf h) ≡ pick resumes 16 13 = rw (g .place) (ends resumes l m) in
+    let p : Placed (pick resumes 16 13) h = record { number = sym e; order = g .order } in
+    record {
+      calls = g .calls;
+      taken = g .taken;
+      under = g .under;
+      types = g .types;
+      told = placed-says (pick resumes 16 13) h p .resumed ∙ told-at resumes;
+      complete = sym (complete-by (pick resumes 16 13) h p) ∙ complete-at resumes;
+    }
+  where
+    told-at : (b : Bool) → resumedAt (pick b 16 13) ≡ b
+    told-at true = refl
+    told-at false = refl
+
+    complete-at : (b : Bool) → (eqb (pick b 16 13) 13 || eqb (pick b 16 13) 16) ≡ true
+    complete-at true = refl
+    complete-at false = refl

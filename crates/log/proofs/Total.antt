@@ -1,0 +1,237 @@
+-- Every list of calls has a run, as specs/Runs.antt states: to each call on a log that stands for a history there is an answer that meets
+-- its contract.
+-- Assumes nothing.
+use mathlib.Core.Path.{_≡_, refl, sym, _∙_, ap, ap₂}
+use mathlib.Core.Bool.{Bool, true, false, not}
+use mathlib.Core.List.{List, [], _∷_, _++_}
+use Prim.Native.Nat.{ℕ, _+_, _-_, _*_, _/_, _%_, _≤_}
+use native.Mathlib.Nat.{div-add-mod, mod-lt}
+use native.Mathlib.Omega.{arith}
+use lib.Dec.{eqb}
+use lib.ListN.{length, take, drop, replicate, length-append}
+use borrow.Author.Tests.{eqb-true, eqb-false}
+use Rattle.seqs.specs.Cases.{by-test}
+use Rattle.seqs.specs.Blocks as blocks
+use Rattle.seqs.specs.Words.{big}
+use Rattle.seqs.proofs.Taking.{holds-more}
+use Rattle.seqs.proofs.Ending.{same-end}
+use Rattle.refusal.specs.Table.{refusalOf}
+use Rattle.octets.specs.Same.{same}
+use Rattle.message.specs.Frame.{kindOf, bodyOf}
+use Rattle.prf.specs.Hash.{SHA256}
+use Rattle.prf.specs.Secrets.{verifyData}
+use Rattle.sha256.specs.Value.{Value}
+use Rattle.sha256.specs.Layout.{valueOf}
+use Rattle.sha256.specs.Constants.{initial}
+use Rattle.sha256.specs.Compress.{step, output}
+use Rattle.sha256.specs.Sha256.{sha256}
+use Rattle.sha256.specs.Running.{Running, most}
+use Rattle.sha256.specs.declared.compress.State.{State}
+use Rattle.sha256.specs.declared.running.Hash.{Hash}
+use Rattle.log.specs.Order.{Place, turns, look, finishedDue}
+use Rattle.log.specs.History.{History, placeOf, hashed, fromServer}
+use Rattle.log.specs.History.History.{fresh}
+use Rattle.log.specs.History.Beside.{told}
+use Rattle.log.specs.Calls.{shapeNumber}
+use Rattle.log.specs.Finish.{expectedValue}
+use Rattle.log.specs.Stands.{Stands, Placed, number}
+use Rattle.log.specs.Steps.{Judges, TurnOf, LogAfter, Asks, Takes}
+use Rattle.log.specs.Runs.{Call, after, Step, Ran, Total}
+use Rattle.log.specs.Runs.Call.{accept, finish}
+use Rattle.log.specs.Runs.Step.{accepting, finishing}
+use Rattle.log.specs.Runs.Run.{done, next}
+use Rattle.log.specs.declared.shape.Judged.{Judged}
+use Rattle.log.specs.declared.state.Log.{Log}
+use Rattle.log.specs.declared.state.Turn.{Turn}
+use Rattle.log.specs.declared.answers.Accepted.{Accepted}
+use Rattle.log.proofs.Turns.{same-place}
+use Rattle.log.proofs.Places.{from-server-by}
+use Rattle.log.proofs.Standing.{far}
+use Rattle.log.proofs.Accepting.{after-exchange, after-other, shape-turn, request-turn, finished-turn, out-turn, other-turn, refused-accepts, request-accepts, done-accepts}
+use Rattle.log.proofs.Finishing.{Due, secret-asks, shape-asks, kind-asks, due-asks, done-asks, takes-server, takes-client, refused-finishes, differs-finishes, equal-finishes}
+
+-- ---- the hash that has taken more bytes, and the digest of one hash
+
+struct : Value → State
+struct v = record { a = v .a; b = v .b; c = v .c; d = v .d; e = v .e; f = v .f; g = v .g; h = v .h }
+
+unfoldable more : Hash → List ℕ → Hash
+more hash b =
+    let bytes = take (hash .length % 64) (hash .tail) ++ b in
+    let sum = hash .length % 64 + length b in
+    record {
+      state = struct (blocks.after 64 step (valueOf (hash .state)) (sum / 64) bytes);
+      tail = drop (64 * (sum / 64)) bytes ++ replicate (64 - sum % 64) 0;
+      length = hash .length + length b;
+    }
+
+more-runs : (hash : Hash) (b n : List ℕ) → Running hash n → length n + length b ≤ most → Running (more hash b) (n ++ b)
+unfolding more struct
+more-runs hash b n r l =
+    let at = hash .length % 64 in
+    let sum = at + length b in
+    record {
+      holds =
+          holds-more 64 (omega arith) step initial n b (r .holds) at (sum / 64) (sum % 64) (ap (λ (i : ℕ). i % 64) (r .holds .counted)) refl
+          (sym (div-add-mod sum 64))
+          (mod-lt sum (omega arith))
+          refl
+          refl;
+      bounded = simp length-append (omega arith);
+    }
+
+one-digest : (hash : Hash) (m n : List ℕ) → Running hash m → Running hash n → sha256 m ≡ sha256 n
+unfolding sha256
+one-digest hash m n p q = ap output (same-end 64 (omega arith) step initial 8 big (omega arith) (p .holds) (q .holds))
+
+-- ---- the answer to each call
+
+unfoldable judged : List ℕ → Judged
+judged m = record { number = shapeNumber m; kind = kindOf m }
+
+judges : (m : List ℕ) → Judges m (judged m)
+unfolding judged
+judges m = record { number = refl; kind = λ _. refl }
+
+record Answered (log : Log) (c : Call) : Type 0 where
+  left : Log
+  step : Step log c left
+
+module _ (log : Log) (h : History) (s : Stands log h) where
+  -- another history that the log stands for has the same place
+  same-places : (p : Place) → log .place ≡ number p → placeOf h ≡ p
+  same-places p e = same-place (placeOf h) p (sym (s .place .number) ∙ e)
+
+  module _ (m : List ℕ) (resumes : Bool) where
+    refused : (t : Turn) → TurnOf log m resumes t → (t .number ≡ 0 → ⊥) → Answered log (accept m resumes)
+    refused t o z =
+        let r : Accepted = record { refusal = refusalOf (t .number); log = log } in
+        record { left = log; step = accepting {r = r} (refused-accepts log m resumes t o r refl refl z) }
+
+    taken : (t : Turn) → TurnOf log m resumes t → t .number ≡ 0 → (t .kind ≡ 0 → ⊥) → (left : Log) → LogAfter log m (t .kind) (t .place) left
+        → Answered log (accept m resumes)
+    taken t o z k left a =
+        let r : Accepted = record { refusal = refusalOf (t .number); log = left } in
+        record { left = left; step = accepting {r = r} (done-accepts log m resumes t o r refl z k a) }
+
+    requested : (t : Turn) → TurnOf log m resumes t → t .number ≡ 0 → t .kind ≡ 0 → Answered log (accept m resumes)
+    requested t o z k =
+        let r : Accepted = record { refusal = refusalOf (t .number); log = log } in
+        record { left = log; step = accepting {r = r} (request-accepts log m resumes t o r refl refl z k) }
+
+    module _ (z : shapeNumber m ≡ 0) (k : kindOf m ≡ 0 → ⊥) (g : kindOf m ≡ 20 → ⊥) where
+      place : ℕ
+      place = number (look (kindOf m) (turns resumes (placeOf h)))
+
+      leads : (p : Place) → log .place ≡ number p → place ≡ number (look (kindOf m) (turns resumes p))
+      unfolding place
+      leads p e = ap (λ (q : Place). number (look (kindOf m) (turns resumes q))) (same-places p e)
+
+      turned : (place ≡ 17 → ⊥) → Answered log (accept m resumes)
+      unfolding judged
+      turned n =
+          let t : Turn = record { number = 0; kind = kindOf m; place = place } in
+          let o : TurnOf log m resumes t = other-turn log m resumes (judged m) (judges m) z k g place leads n in
+          let i = o .in-turn refl k h s in
+          let r = more-runs (log .hash) m (hashed h) (s .hash) (omega (arith, far log h m (told resumes) (kindOf m) place s i, i .size)) in
+          by-test (eqb (kindOf m) 16)
+          (λ e.
+          taken t o refl k _
+          (after-exchange log m (kindOf m) place (more (log .hash) m) (more-runs (log .hash) m) (sha256 (hashed h ++ m)) (eqb-true (kindOf m) 16 e)
+          (λ n q. one-digest (more (log .hash) m) (hashed h ++ m) n r q)))
+          (λ e. taken t o refl k _ (after-other log m (kindOf m) place (more (log .hash) m) (more-runs (log .hash) m) (eqb-false (kindOf m) 16 e)))
+
+      in-turn : Answered log (accept m resumes)
+      unfolding judged
+      in-turn =
+          by-test (eqb place 17)
+          (λ e. refused _ (out-turn log m resumes (judged m) (judges m) z k g place leads (eqb-true place 17 e)) (λ x. omega arith))
+          (λ e. turned (eqb-false place 17 e))
+
+    accept-answered : Answered log (accept m resumes)
+    unfolding judged
+    accept-answered =
+        by-test (eqb (shapeNumber m) 0)
+        (λ e.
+        let z = eqb-true (shapeNumber m) 0 e in
+        by-test (eqb (kindOf m) 0)
+        (λ f. let k = eqb-true (kindOf m) 0 f in requested _ (request-turn log m resumes (judged m) (judges m) z k) refl k)
+        (λ f.
+        by-test (eqb (kindOf m) 20)
+        (λ g. refused _ (finished-turn log m resumes (judged m) (judges m) z (eqb-true (kindOf m) 20 g)) (λ x. omega arith))
+        (λ g. in-turn z (eqb-false (kindOf m) 0 f) (eqb-false (kindOf m) 20 g))))
+        (λ e. let z = eqb-false (shapeNumber m) 0 e in refused _ (shape-turn log m resumes (judged m) (judges m) z) z)
+
+  -- another history that the log stands for expects the same Finished, of the same side
+  same-side : (g : History) → Placed (log .place) g → fromServer h ≡ fromServer g
+  same-side g p = sym (from-server-by (log .place) h (s .place)) ∙ from-server-by (log .place) g p
+
+  same-expected : (secret : List ℕ) (g : History) → Stands log g → expectedValue h secret ≡ expectedValue g secret
+  unfolding expectedValue
+  same-expected secret g t =
+      ap₂ (λ (b : Bool) (d : List ℕ). verifyData SHA256 secret b d) (same-side g (t .place)) (one-digest (log .hash) (hashed h) (hashed g) (s .hash) (t .hash))
+
+  module _ (secret m : List ℕ) where
+    unfinished : (n : ℕ) → Asks log secret m n → (n ≡ 0 → ⊥) → Answered log (finish secret m)
+    unfinished n o z =
+        let r : Accepted = record { refusal = refusalOf n; log = log } in
+        record { left = log; step = finishing {r = r} (refused-finishes log secret m n o r refl refl z) }
+
+    compared : Asks log secret m 0 → Answered log (finish secret m)
+    compared o =
+        let v : List ℕ = expectedValue h secret in
+        let d : (left : Log) → Takes log m v left → same (bodyOf m) v ≡ true → Answered log (finish secret m) =
+        λ left t e.
+        let r : Accepted = record { refusal = refusalOf 0; log = left } in
+        record { left = left; step = finishing {r = r} (equal-finishes log secret m 0 o refl v (same-expected secret) (same (bodyOf m) v) refl r e refl t) } in
+        let q : ℕ = number (look 20 (turns false (placeOf h))) in
+        let l : (p : Place) → log .place ≡ number p → q ≡ number (look 20 (turns false p)) = λ p e. ap (λ (x : Place). number (look 20 (turns false x))) (same-places p e) in
+        by-test (same (bodyOf m) v)
+        (λ e.
+        by-test (fromServer h)
+        (λ f. d _ (takes-server log m v (more (log .hash) m) (more-runs (log .hash) m) q l (fromServer h) same-side f) e)
+        (λ f. d _ (takes-client log m v (more (log .hash) m) (more-runs (log .hash) m) q l (fromServer h) same-side f) e))
+        (λ e.
+        let r : Accepted = record { refusal = refusalOf 8; log = log } in
+        record { left = log; step = finishing {r = r} (differs-finishes log secret m 0 o refl v (same-expected secret) (same (bodyOf m) v) refl r e refl refl) })
+
+    finish-answered : Answered log (finish secret m)
+    unfolding judged
+    finish-answered =
+        by-test (eqb (length secret) 48)
+        (λ e.
+        let n = eqb-true (length secret) 48 e in
+        by-test (eqb (shapeNumber m) 0)
+        (λ f.
+        let z = eqb-true (shapeNumber m) 0 f in
+        by-test (eqb (kindOf m) 20)
+        (λ g.
+        let k = eqb-true (kindOf m) 20 g in
+        by-test (not (finishedDue (placeOf h)))
+        (λ x. unfinished 7 (due-asks log secret m n (judged m) (judges m) z k (finishedDue (placeOf h)) due x) (λ y. omega arith))
+        (λ x. compared (done-asks log secret m n (judged m) (judges m) z k (finishedDue (placeOf h)) due x)))
+        (λ g. unfinished 7 (kind-asks log secret m n (judged m) (judges m) z (eqb-false (kindOf m) 20 g)) (λ y. omega arith)))
+        (λ f. let z = eqb-false (shapeNumber m) 0 f in unfinished (shapeNumber m) (shape-asks log secret m n (judged m) (judges m) z) z))
+        (λ e. unfinished 10 (secret-asks log secret m (eqb-false (length secret) 48 e)) (λ y. omega arith))
+      where
+        due : Due log (finishedDue (placeOf h))
+        due p e = ap finishedDue (same-places p e)
+
+  answered : (c : Call) → Answered log c
+  answered (accept m resumes) = accept-answered m resumes
+  answered (finish secret m) = finish-answered secret m
+
+step-stands : (log left : Log) (h : History) (c : Call) → Stands log h → Step log c left → Stands left (after h c)
+unfolding after
+step-stands log left h c s (accepting a) = a .stands h s
+step-stands log left h c s (finishing f) = f .stands h s
+
+ran : (cs : List Call) (log : Log) (h : History) → Stands log h → Ran log cs
+ran [] log h s = record { left = log; run = done }
+ran (c ∷ cs) log h s =
+    let a = answered log h s c in
+    let r = ran cs (a .left) (after h c) (step-stands log (a .left) h c s (a .step)) in
+    record { left = r .left; run = next (a .step) (r .run) }
+
+pub total : Total
+total log cs s = ran cs log fresh s
