@@ -87,16 +87,16 @@ module _ (m : List ℕ) (resumes : Bool) (h : History) where
 
 -- the ways out of `turn`
 module _ (log : Log) (m : List ℕ) (resumes : Bool) where
-  refused-turn : (n k p : ℕ) → n ≤ 11 → (n ≡ 0 → ⊥) → ((h : History) → Stands log h → acceptNumber h m resumes ≡ n)
-      → TurnOf log m resumes (record { number = n; kind = k; place = p })
-  refused-turn n k p l z f =
-      record { within = l; number = f; other = λ e. absurd (z e); request = λ e. absurd (z e); in-turn = λ e. absurd (z e) }
+  refused-turn : (n k p : ℕ) → n ≤ 11 → (n ≡ 0 → ⊥) → (kindOf m ≡ 20 → (h : History) → acceptNumber h m resumes ≡ n)
+      → ((h : History) → Stands log h → acceptNumber h m resumes ≡ n) → TurnOf log m resumes (record { number = n; kind = k; place = p })
+  refused-turn n k p l z e f =
+      record { within = l; number = f; fed = e; other = λ q. absurd (z q); request = λ q. absurd (z q); in-turn = λ q. absurd (z q) }
 
   module _ (j : Judged) (jd : Judges m j) where
     pub shape-turn : (j .number ≡ 0 → ⊥) → TurnOf log m resumes (record { number = j .number; kind = j .kind; place = 0 })
     shape-turn z =
-        refused-turn (j .number) (j .kind) 0 (omega (arith, jd .number, shape-most m)) z
-        (λ h s. accept-shape m resumes h (λ q. z (jd .number ∙ q)) ∙ sym (jd .number))
+        let n : (h : History) → acceptNumber h m resumes ≡ j .number = λ h. accept-shape m resumes h (λ q. z (jd .number ∙ q)) ∙ sym (jd .number) in
+        refused-turn (j .number) (j .kind) 0 (omega (arith, jd .number, shape-most m)) z (λ _. n) (λ h _. n h)
 
     module _ (z : j .number ≡ 0) where
       well : Fine m
@@ -110,6 +110,7 @@ module _ (log : Log) (m : List ℕ) (resumes : Bool) where
           record {
             within = omega arith;
             number = λ h s. accept-request m resumes h well (sym kind ∙ k);
+            fed = λ x. absurd (omega (arith, kind, k, x));
             other = λ _ x. omega (arith, kind, k, x);
             request = λ _ q. sym kind ∙ q;
             in-turn = λ _ n. absurd (n k);
@@ -117,7 +118,8 @@ module _ (log : Log) (m : List ℕ) (resumes : Bool) where
 
       pub finished-turn : j .kind ≡ 20 → TurnOf log m resumes (record { number = 7; kind = j .kind; place = 0 })
       finished-turn k =
-          refused-turn 7 (j .kind) 0 (omega arith) (λ x. omega arith) (λ h s. accept-finished m resumes h well (sym kind ∙ k))
+          let n : (h : History) → acceptNumber h m resumes ≡ 7 = λ h. accept-finished m resumes h well (sym kind ∙ k) in
+          refused-turn 7 (j .kind) 0 (omega arith) (λ x. omega arith) (λ _. n) (λ h _. n h)
 
       module _ (k : j .kind ≡ 0 → ⊥) (g : j .kind ≡ 20 → ⊥) (q : ℕ)
           (e : (p : Place) → log .place ≡ number p → q ≡ number (look (j .kind) (turns resumes p))) where
@@ -132,7 +134,7 @@ module _ (log : Log) (m : List ℕ) (resumes : Bool) where
 
         pub out-turn : q ≡ 17 → TurnOf log m resumes (record { number = 7; kind = j .kind; place = q })
         out-turn n =
-            refused-turn 7 (j .kind) q (omega arith) (λ x. omega arith) (λ h s. answered h s false (rw n))
+            refused-turn 7 (j .kind) q (omega arith) (λ x. omega arith) (λ x. absurd (g (kind ∙ x))) (λ h s. answered h s false (rw n))
 
         pub other-turn : (q ≡ 17 → ⊥) → TurnOf log m resumes (record { number = 0; kind = j .kind; place = q })
         unfolding tells
@@ -140,6 +142,7 @@ module _ (log : Log) (m : List ℕ) (resumes : Bool) where
             record {
               within = omega arith;
               number = λ h s. answered h s true (rw (ne-eqb q 17 n));
+              fed = λ x. absurd (g (kind ∙ x));
               other = λ _ x. g (kind ∙ x);
               request = λ _ x. absurd (k x);
               in-turn =
@@ -155,6 +158,7 @@ module _ (log : Log) (m : List ℕ) (resumes : Bool) (t : Turn) (o : TurnOf log 
       record {
         listed = listed (t .number) (r .refusal) e (o .within);
         kept = λ _. k;
+        fed = λ f h. e ∙ ap refusalOf (sym (o .fed f h));
         refusal = λ h s. e ∙ ap refusalOf (sym (o .number h s));
         stands = λ h s. rw (k, o .number h s, ne-eqb (t .number) 0 z) s;
       }
@@ -166,6 +170,7 @@ module _ (log : Log) (m : List ℕ) (resumes : Bool) (t : Turn) (o : TurnOf log 
       record {
         listed = listed (t .number) (r .refusal) e (o .within);
         kept = λ n. absurd (n (numbered (t .number) (r .refusal) e ∙ z));
+        fed = λ f h. e ∙ ap refusalOf (sym (o .fed f h));
         refusal = λ h s. e ∙ ap refusalOf (sym (o .number h s));
         stands = λ h s. rw (o .number h s, z) (f h s);
       }

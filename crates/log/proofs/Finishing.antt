@@ -190,6 +190,7 @@ module _ (log : Log) (secret m : List ℕ) (n : ℕ) (o : Asks log secret m n) w
       record {
         listed = listed k (r .refusal) e l;
         kept = λ _. q;
+        taken = λ x. absurd (z (sym (numbered k (r .refusal) e) ∙ x));
         refusal = λ h s. e ∙ ap refusalOf (sym (f h s));
         stands = λ h s. rw (q, f h s, ne-eqb k 0 z) s;
       }
@@ -214,6 +215,7 @@ module _ (log : Log) (secret m : List ℕ) (n : ℕ) (o : Asks log secret m n) w
         record {
           listed = listed 0 (r .refusal) f (omega arith);
           kept = λ x. absurd (x (numbered 0 (r .refusal) f));
+          taken = λ _. (o .kind z, o .sized z);
           refusal = λ h s. f ∙ ap refusalOf (sym (number-by h s ∙ (rw y)));
           stands =
               λ h s.

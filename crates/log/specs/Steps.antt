@@ -33,6 +33,7 @@ pub record InTurn (h : History) (m : List ℕ) (b : Beside) (k p : ℕ) : Type 0
 pub record TurnOf (log : Log) (m : List ℕ) (resumes : Bool) (t : Turn) : Type 0 where
   pub within : t .number ≤ 11
   pub number : (h : History) → Stands log h → acceptNumber h m resumes ≡ t .number
+  pub fed : kindOf m ≡ 20 → (h : History) → acceptNumber h m resumes ≡ t .number
   pub other : t .number ≡ 0 → kindOf m ≡ 20 → ⊥
   pub request : t .number ≡ 0 → t .kind ≡ 0 → kindOf m ≡ 0
   pub in-turn : t .number ≡ 0 → (t .kind ≡ 0 → ⊥) → (h : History) → Stands log h → InTurn h m (told resumes) (t .kind) (t .place)
