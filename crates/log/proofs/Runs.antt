@@ -22,8 +22,11 @@ use Rattle.log.specs.Runs.{Call, after, historyFrom, Run, Came, Theorem}
 use Rattle.log.specs.Runs.Step.{accepting, finishing}
 use Rattle.log.specs.Runs.Run.{done, next}
 use Rattle.log.specs.Runs.From.{here, later}
+use Rattle.log.specs.Orders.{OrderedRuns}
 use Rattle.log.specs.declared.state.Log.{Log}
 use Rattle.log.proofs.Turns.{passes, clientAt, serverAt, serverDueAt, turned}
+use Rattle.log.proofs.Histories.{ordered}
+use Rattle.log.proofs.Calling.{both-calls}
 use Rattle.log.proofs.Places.{from-server-by, complete-by}
 
 -- is a side's Finished taken?
@@ -123,3 +126,9 @@ law log log′ cs f r =
       compared = s .compared;
       came = λ c side. came-by side h (s .compared) (both side h (s .place .order) c);
     }
+
+pub ordered-runs : OrderedRuns
+ordered-runs log log′ cs f r =
+    let h = historyFrom fresh cs in
+    let o : inOrder h ≡ true = law log log′ cs f r .stands .place .order in
+    record { begins = ordered h .begins o; every = ordered h .every o; only = ordered h .only o; calls = both-calls h o }

@@ -1,4 +1,5 @@
--- Document 01's orders written out, and a handshake by its types alone: what the table of turns is held to.
+-- Document 01's orders written out, and a handshake by its types alone: what the table of turns is held to, and with it every history, both
+-- calls and every run.
 -- Assumes nothing.
 use mathlib.Core.Path.{_≡_}
 use mathlib.Core.Bool.{Bool, true, false, _&&_}
@@ -16,8 +17,10 @@ use Rattle.log.specs.History.History.{fresh, accepted}
 use Rattle.log.specs.History.Beside.{told}
 use Rattle.log.specs.Calls.{shapeNumber, inOrder, acceptNumber, sessionNumber}
 use Rattle.log.specs.Finish.{expectedValue, finishNumber, Checked}
-use Rattle.log.specs.Runs.{Call, numberOf, after, historyFrom}
+use Rattle.log.specs.Runs.{Call, numberOf, after, historyFrom, Run}
 use Rattle.log.specs.Runs.Call.{accept, finish}
+use Rattle.log.specs.Stands.{Stands}
+use Rattle.log.specs.declared.state.Log.{Log}
 
 -- a type that may be there
 abbrev pub optional : Bool → ℕ → List ℕ
@@ -90,6 +93,17 @@ pub record BothCalls (h : History) : Type 0 where
       → Begins (resumed h) (typesOf h ++ (20 ∷ [])) → finishNumber h secret m ≡ 0
   pub finishes-only : (secret m : List ℕ) → finishNumber h secret m ≡ 0
       → Checked h m secret × Begins (resumed h) (typesOf h ++ (20 ∷ []))
+
+-- By the contracts alone: after every list of calls from a fresh log the types of the accepted messages begin an order, both Finished are
+-- taken exactly if they are one, and the next call answers so.
+pub record OrderedBy (h : History) : Type 0 where
+  pub begins : Begins (resumed h) (typesOf h)
+  pub every : List·Memᴰ (typesOf h) (orders (resumed h)) → complete h ≡ true
+  pub only : complete h ≡ true → List·Memᴰ (typesOf h) (orders (resumed h))
+  pub calls : BothCalls h
+
+abbrev pub OrderedRuns : Type 0
+OrderedRuns = (log log′ : Log) (cs : List Call) → Stands log fresh → Run log cs log′ → OrderedBy (historyFrom fresh cs)
 
 -- each call is answered 0
 unfoldable pub AllTaken : History → List Call → Type 0
