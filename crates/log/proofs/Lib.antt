@@ -8,5 +8,5 @@ pub mod Finishing
 pub mod Orders
 pub mod Histories
 pub mod Calling
-pub mod Total
 pub mod Runs
+pub mod Total

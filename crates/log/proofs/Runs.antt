@@ -18,7 +18,7 @@ use Rattle.log.specs.History.Side.{client, server}
 use Rattle.log.specs.Calls.{outOfTurn, inOrder}
 use Rattle.log.specs.Finish.{Compared}
 use Rattle.log.specs.Stands.{Stands, number}
-use Rattle.log.specs.Runs.{Call, after, historyFrom, Run, Came, Theorem}
+use Rattle.log.specs.Runs.{Call, after, historyFrom, Step, Run, Came, Theorem}
 use Rattle.log.specs.Runs.Step.{accepting, finishing}
 use Rattle.log.specs.Runs.Run.{done, next}
 use Rattle.log.specs.Runs.From.{here, later}
@@ -111,11 +111,15 @@ both side h o c = by-side side
     by-side server = took h o .server ∙ or-more (eqb (number (placeOf h)) 15) (eqb (number (placeOf h)) 13 || eqb (number (placeOf h)) 16) ended
 
 -- each call hands back a log that stands for the next history
+pub step-stands : (log log′ : Log) (h : History) (c : Call) → Stands log h → Step log c log′ → Stands log′ (after h c)
+unfolding after
+step-stands log log′ h c s (accepting a) = a .stands h s
+step-stands log log′ h c s (finishing f) = f .stands h s
+
 run-stands : (log log′ : Log) (h : History) (cs : List Call) → Stands log h → Run log cs log′ → Stands log′ (historyFrom h cs)
-unfolding after historyFrom
+unfolding historyFrom
 run-stands log log′ h cs s done = s
-run-stands log log′ h cs s (next (accepting a) r) = run-stands _ log′ _ _ (a .stands h s) r
-run-stands log log′ h cs s (next (finishing f) r) = run-stands _ log′ _ _ (f .stands h s) r
+run-stands log log′ h cs s (next {c = c} t r) = run-stands _ log′ (after h c) _ (step-stands log _ h c s t) r
 
 pub law : Theorem
 law log log′ cs f r =

@@ -4,30 +4,19 @@
 use mathlib.Core.Path.{_≡_, refl, sym, _∙_, ap, ap₂}
 use mathlib.Core.Bool.{Bool, true, false, not}
 use mathlib.Core.List.{List, [], _∷_, _++_}
-use Prim.Native.Nat.{ℕ, _+_, _-_, _*_, _/_, _%_, _≤_}
-use native.Mathlib.Nat.{div-add-mod, mod-lt}
+use Prim.Native.Nat.{ℕ}
 use native.Mathlib.Omega.{arith}
 use lib.Dec.{eqb}
-use lib.ListN.{length, take, drop, replicate, length-append}
+use lib.ListN.{length}
 use borrow.Author.Tests.{eqb-true, eqb-false}
 use Rattle.seqs.specs.Cases.{by-test}
-use Rattle.seqs.specs.Blocks as blocks
-use Rattle.seqs.specs.Words.{big}
-use Rattle.seqs.proofs.Taking.{holds-more}
-use Rattle.seqs.proofs.Ending.{same-end}
 use Rattle.refusal.specs.Table.{refusalOf}
 use Rattle.octets.specs.Same.{same}
 use Rattle.message.specs.Frame.{kindOf, bodyOf}
 use Rattle.prf.specs.Hash.{SHA256}
 use Rattle.prf.specs.Secrets.{verifyData}
-use Rattle.sha256.specs.Value.{Value}
-use Rattle.sha256.specs.Layout.{valueOf}
-use Rattle.sha256.specs.Constants.{initial}
-use Rattle.sha256.specs.Compress.{step, output}
 use Rattle.sha256.specs.Sha256.{sha256}
-use Rattle.sha256.specs.Running.{Running, most}
-use Rattle.sha256.specs.declared.compress.State.{State}
-use Rattle.sha256.specs.declared.running.Hash.{Hash}
+use Rattle.sha256.proofs.Further.{further, further-runs, one-digest}
 use Rattle.log.specs.Order.{Place, turns, look, finishedDue}
 use Rattle.log.specs.History.{History, placeOf, hashed, fromServer}
 use Rattle.log.specs.History.History.{fresh}
@@ -47,44 +36,9 @@ use Rattle.log.specs.declared.answers.Accepted.{Accepted}
 use Rattle.log.proofs.Turns.{same-place}
 use Rattle.log.proofs.Places.{from-server-by}
 use Rattle.log.proofs.Standing.{far}
+use Rattle.log.proofs.Runs.{step-stands}
 use Rattle.log.proofs.Accepting.{after-exchange, after-other, shape-turn, request-turn, finished-turn, out-turn, other-turn, refused-accepts, request-accepts, done-accepts}
 use Rattle.log.proofs.Finishing.{Due, secret-asks, shape-asks, kind-asks, due-asks, done-asks, takes-server, takes-client, refused-finishes, differs-finishes, equal-finishes}
-
--- ---- the hash that has taken more bytes, and the digest of one hash
-
-struct : Value → State
-struct v = record { a = v .a; b = v .b; c = v .c; d = v .d; e = v .e; f = v .f; g = v .g; h = v .h }
-
-unfoldable more : Hash → List ℕ → Hash
-more hash b =
-    let bytes = take (hash .length % 64) (hash .tail) ++ b in
-    let sum = hash .length % 64 + length b in
-    record {
-      state = struct (blocks.after 64 step (valueOf (hash .state)) (sum / 64) bytes);
-      tail = drop (64 * (sum / 64)) bytes ++ replicate (64 - sum % 64) 0;
-      length = hash .length + length b;
-    }
-
-more-runs : (hash : Hash) (b n : List ℕ) → Running hash n → length n + length b ≤ most → Running (more hash b) (n ++ b)
-unfolding more struct
-more-runs hash b n r l =
-    let at = hash .length % 64 in
-    let sum = at + length b in
-    record {
-      holds =
-          holds-more 64 (omega arith) step initial n b (r .holds) at (sum / 64) (sum % 64) (ap (λ (i : ℕ). i % 64) (r .holds .counted)) refl
-          (sym (div-add-mod sum 64))
-          (mod-lt sum (omega arith))
-          refl
-          refl;
-      bounded = simp length-append (omega arith);
-    }
-
-one-digest : (hash : Hash) (m n : List ℕ) → Running hash m → Running hash n → sha256 m ≡ sha256 n
-unfolding sha256
-one-digest hash m n p q = ap output (same-end 64 (omega arith) step initial 8 big (omega arith) (p .holds) (q .holds))
-
--- ---- the answer to each call
 
 unfoldable judged : List ℕ → Judged
 judged m = record { number = shapeNumber m; kind = kindOf m }
@@ -133,13 +87,13 @@ module _ (log : Log) (h : History) (s : Stands log h) where
           let t : Turn = record { number = 0; kind = kindOf m; place = place } in
           let o : TurnOf log m resumes t = other-turn log m resumes (judged m) (judges m) z k g place leads n in
           let i = o .in-turn refl k h s in
-          let r = more-runs (log .hash) m (hashed h) (s .hash) (omega (arith, far log h m (told resumes) (kindOf m) place s i, i .size)) in
+          let r = further-runs (log .hash) m (hashed h) (s .hash) (omega (arith, far log h m (told resumes) (kindOf m) place s i, i .size)) in
           by-test (eqb (kindOf m) 16)
           (λ e.
           taken t o refl k _
-          (after-exchange log m (kindOf m) place (more (log .hash) m) (more-runs (log .hash) m) (sha256 (hashed h ++ m)) (eqb-true (kindOf m) 16 e)
-          (λ n q. one-digest (more (log .hash) m) (hashed h ++ m) n r q)))
-          (λ e. taken t o refl k _ (after-other log m (kindOf m) place (more (log .hash) m) (more-runs (log .hash) m) (eqb-false (kindOf m) 16 e)))
+          (after-exchange log m (kindOf m) place (further (log .hash) m) (further-runs (log .hash) m) (sha256 (hashed h ++ m)) (eqb-true (kindOf m) 16 e)
+          (λ n q. one-digest (further (log .hash) m) (hashed h ++ m) n r q)))
+          (λ e. taken t o refl k _ (after-other log m (kindOf m) place (further (log .hash) m) (further-runs (log .hash) m) (eqb-false (kindOf m) 16 e)))
 
       in-turn : Answered log (accept m resumes)
       unfolding judged
@@ -189,8 +143,8 @@ module _ (log : Log) (h : History) (s : Stands log h) where
         by-test (same (bodyOf m) v)
         (λ e.
         by-test (fromServer h)
-        (λ f. d _ (takes-server log m v (more (log .hash) m) (more-runs (log .hash) m) q l (fromServer h) same-side f) e)
-        (λ f. d _ (takes-client log m v (more (log .hash) m) (more-runs (log .hash) m) q l (fromServer h) same-side f) e))
+        (λ f. d _ (takes-server log m v (further (log .hash) m) (further-runs (log .hash) m) q l (fromServer h) same-side f) e)
+        (λ f. d _ (takes-client log m v (further (log .hash) m) (further-runs (log .hash) m) q l (fromServer h) same-side f) e))
         (λ e.
         let r : Accepted = record { refusal = refusalOf 8; log = log } in
         record { left = log; step = finishing {r = r} (differs-finishes log secret m 0 o refl v (same-expected secret) (same (bodyOf m) v) refl r e refl refl) })
@@ -220,11 +174,6 @@ module _ (log : Log) (h : History) (s : Stands log h) where
   answered : (c : Call) → Answered log c
   answered (accept m resumes) = accept-answered m resumes
   answered (finish secret m) = finish-answered secret m
-
-step-stands : (log left : Log) (h : History) (c : Call) → Stands log h → Step log c left → Stands left (after h c)
-unfolding after
-step-stands log left h c s (accepting a) = a .stands h s
-step-stands log left h c s (finishing f) = f .stands h s
 
 ran : (cs : List Call) (log : Log) (h : History) → Stands log h → Ran log cs
 ran [] log h s = record { left = log; run = done }

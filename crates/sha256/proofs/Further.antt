@@ -1,0 +1,53 @@
+-- A hash goes on: for every hash and more bytes there is one that has taken them behind whatever was taken before. And what one hash has taken
+-- has one digest.
+-- Assumes nothing.
+use mathlib.Core.Path.{_≡_, refl, sym, ap}
+use mathlib.Core.List.{List, _++_}
+use Prim.Native.Nat.{ℕ, _+_, _-_, _*_, _/_, _%_, _≤_}
+use native.Mathlib.Nat.{div-add-mod, mod-lt}
+use native.Mathlib.Omega.{arith}
+use lib.ListN.{length, take, drop, replicate, length-append}
+use Rattle.seqs.specs.Blocks.{after}
+use Rattle.seqs.specs.Words.{big}
+use Rattle.seqs.proofs.Taking.{holds-more}
+use Rattle.seqs.proofs.Ending.{same-end}
+use Rattle.sha256.specs.Value.{Value}
+use Rattle.sha256.specs.Layout.{valueOf}
+use Rattle.sha256.specs.Constants.{initial}
+use Rattle.sha256.specs.Compress.{step, output}
+use Rattle.sha256.specs.Sha256.{sha256}
+use Rattle.sha256.specs.Running.{Running, most}
+use Rattle.sha256.specs.declared.compress.State.{State}
+use Rattle.sha256.specs.declared.running.Hash.{Hash}
+
+struct : Value → State
+struct v = record { a = v .a; b = v .b; c = v .c; d = v .d; e = v .e; f = v .f; g = v .g; h = v .h }
+
+pub further : Hash → List ℕ → Hash
+further hash b =
+    let bytes = take (hash .length % 64) (hash .tail) ++ b in
+    let sum = hash .length % 64 + length b in
+    record {
+      state = struct (after 64 step (valueOf (hash .state)) (sum / 64) bytes);
+      tail = drop (64 * (sum / 64)) bytes ++ replicate (64 - sum % 64) 0;
+      length = hash .length + length b;
+    }
+
+pub further-runs : (hash : Hash) (b n : List ℕ) → Running hash n → length n + length b ≤ most → Running (further hash b) (n ++ b)
+unfolding further struct
+further-runs hash b n r l =
+    let at = hash .length % 64 in
+    let sum = at + length b in
+    record {
+      holds =
+          holds-more 64 (omega arith) step initial n b (r .holds) at (sum / 64) (sum % 64) (ap (λ (i : ℕ). i % 64) (r .holds .counted)) refl
+          (sym (div-add-mod sum 64))
+          (mod-lt sum (omega arith))
+          refl
+          refl;
+      bounded = simp length-append (omega arith);
+    }
+
+pub one-digest : (hash : Hash) (m n : List ℕ) → Running hash m → Running hash n → sha256 m ≡ sha256 n
+unfolding sha256
+one-digest hash m n p q = ap output (same-end 64 (omega arith) step initial 8 big (omega arith) (p .holds) (q .holds))
