@@ -2,15 +2,15 @@
 -- Assumes nothing.
 use mathlib.Core.Path.{_≡_, refl, sym, _∙_, ap}
 use mathlib.Core.Bool.{Bool, true, false, not}
-use mathlib.Core.List.{List, _++_}
+use mathlib.Core.List.{List, [], _∷_, _++_}
 use Prim.Native.Nat.{ℕ, _+_, _≤_}
 use native.Mathlib.Omega.{arith}
 use lib.Dec.{eqb}
 use lib.ListN.{length}
 use borrow.Author.Tests.{ne-eqb}
 use Rattle.seqs.specs.Pick.{pick}
-use Rattle.seqs.specs.Cases.{by-test}
 use Rattle.refusal.specs.First.{firstOf}
+use Rattle.refusal.proofs.First.{first-front}
 use Rattle.refusal.specs.Table.{refusalOf}
 use Rattle.message.specs.Frame.{kindOf, overlong, misstated}
 use Rattle.sha256.specs.Sha256.{sha256}
@@ -56,14 +56,9 @@ module _ (log : Log) (m : List ℕ) (k p : ℕ) (hash : Hash)
 -- the number of each way out
 module _ (m : List ℕ) (resumes : Bool) (h : History) where
   pub accept-shape : (shapeNumber m ≡ 0 → ⊥) → acceptNumber h m resumes ≡ shapeNumber m
-  unfolding acceptNumber shapeNumber firstOf
-  accept-shape z = by-test (overlong m) (misstated m) (misshapen m) refl refl refl
-    where
-      by-test : (a b c : Bool) → overlong m ≡ a → misstated m ≡ b → misshapen m ≡ c → acceptNumber h m resumes ≡ shapeNumber m
-      by-test true b c p q r = rw p
-      by-test false true c p q r = rw (p, q)
-      by-test false false true p q r = rw (p, q, r)
-      by-test false false false p q r = absurd (z (rw (p, q, r)))
+  unfolding acceptNumber shapeNumber
+  accept-shape z =
+      first-front ((10, overlong m) ∷ (1, misstated m) ∷ (1, misshapen m) ∷ []) ((7, isFinished m) ∷ (7, outOfTurn h m resumes) ∷ []) z
 
   module _ (f : Fine m) where
     pub accept-turn : (a b : Bool) → isFinished m ≡ a → outOfTurn h m resumes ≡ b → acceptNumber h m resumes ≡ pick a 7 (pick b 7 0)

@@ -2,13 +2,14 @@
 -- Assumes nothing.
 use mathlib.Core.Path.{_≡_, refl, sym, _∙_, ap}
 use mathlib.Core.Bool.{Bool, true, false, not, _&&_}
-use mathlib.Core.List.{List, _++_}
+use mathlib.Core.List.{List, [], _∷_, _++_}
 use Prim.Native.Nat.{ℕ, _+_, _≤_}
 use native.Mathlib.Omega.{arith}
 use lib.ListN.{length, replicate}
 use borrow.Author.Tests.{eq-eqb, ne-eqb, not-true, not-false}
 use Rattle.seqs.specs.Pick.{pick}
 use Rattle.refusal.specs.First.{firstOf}
+use Rattle.refusal.proofs.First.{first-front}
 use Rattle.refusal.specs.Table.{refusalOf}
 use Rattle.refusal.specs.Listed.{listed, numbered}
 use Rattle.refusal.specs.declared.Refusal.{Refusal}
@@ -91,13 +92,10 @@ module _ (secret m : List ℕ) (h : History) where
   module _ (n : length secret ≡ 48) where
     finish-shape : (shapeNumber m ≡ 0 → ⊥) → finishNumber h secret m ≡ shapeNumber m
     unfolding finishNumber shapeNumber firstOf
-    finish-shape z = by-test (overlong m) (misstated m) (misshapen m) refl refl refl
-      where
-        by-test : (a b c : Bool) → overlong m ≡ a → misstated m ≡ b → misshapen m ≡ c → finishNumber h secret m ≡ shapeNumber m
-        by-test true b c p q r = rw (eq-eqb (length secret) 48 n, p)
-        by-test false true c p q r = rw (eq-eqb (length secret) 48 n, p, q)
-        by-test false false true p q r = rw (eq-eqb (length secret) 48 n, p, q, r)
-        by-test false false false p q r = absurd (z (rw (p, q, r)))
+    finish-shape z =
+        rw (eq-eqb (length secret) 48 n)
+        (first-front ((10, overlong m) ∷ (1, misstated m) ∷ (1, misshapen m) ∷ [])
+        ((7, not (isFinished m && finishedDue (placeOf h))) ∷ (8, not (same (bodyOf m) (expectedValue h secret))) ∷ []) z)
 
     pub finish-due : Fine m → (a b : Bool) → (isFinished m && finishedDue (placeOf h)) ≡ a → same (bodyOf m) (expectedValue h secret) ≡ b
         → finishNumber h secret m ≡ pick a (pick b 0 8) 7

@@ -2,7 +2,7 @@
 -- Assumes nothing.
 use mathlib.Core.Path.{_≡_, refl, sym, _∙_}
 use mathlib.Core.Bool.{Bool, true, false, not, _||_}
-use mathlib.Core.List.{List}
+use mathlib.Core.List.{List, [], _∷_}
 use Prim.Native.Nat.{ℕ, _≤_}
 use native.Mathlib.Omega.{arith}
 use lib.Dec.{eqb, ltb}
@@ -10,6 +10,7 @@ use lib.ListN.{length}
 use borrow.Author.Tests.{ltb-false, ne-eqb, not-true, not-false}
 use Rattle.seqs.specs.Pick.{pick}
 use Rattle.refusal.specs.First.{firstOf}
+use Rattle.refusal.proofs.First.{first-front}
 use Rattle.message.specs.Numbers.{tripleAt}
 use Rattle.message.specs.Frame.{bodyOf, overlong, misstated, frameNumber, framed}
 use Rattle.log.specs.Calls.{wrongBody, misshapen, shapeNumber}
@@ -58,13 +59,8 @@ module _ (m : List ℕ) where
 
   -- the number of a header that is refused, and of one that is read
   pub shape-refused : (frameNumber m ≡ 0 → ⊥) → shapeNumber m ≡ frameNumber m
-  unfolding frameNumber shapeNumber firstOf
-  shape-refused h = go (overlong m) (misstated m) refl refl
-    where
-      go : (a b : Bool) → overlong m ≡ a → misstated m ≡ b → shapeNumber m ≡ frameNumber m
-      go true b p q = rw p
-      go false true p q = rw (p, q)
-      go false false p q = absurd (h (rw (p, q)))
+  unfolding frameNumber shapeNumber
+  shape-refused z = first-front ((10, overlong m) ∷ (1, misstated m) ∷ []) ((1, misshapen m) ∷ []) z
 
   pub shape-whole : overlong m ≡ false → misstated m ≡ false → shapeNumber m ≡ pick (misshapen m) 1 0
   shape-whole p q = by-tests false false (misshapen m) p q refl

@@ -2,7 +2,7 @@
 -- Assumes nothing.
 use mathlib.Core.Path.{_≡_, refl}
 use mathlib.Core.Bool.{Bool, true, false, not, _&&_}
-use mathlib.Core.List.{List, [], _∷_}
+use mathlib.Core.List.{List, [], _∷_, _++_}
 use Prim.Native.Nat.{ℕ, _≤_}
 use native.Mathlib.Omega.{arith}
 use lib.Dec.{leb, eqb}
@@ -31,3 +31,10 @@ unfolding firstOf
 first-within [] t = omega arith
 first-within ((n, true) ∷ rest) t = leb-true n 11 (and-left _ (refusing rest) (and-right (not (eqb n 0)) _ t))
 first-within ((n, false) ∷ rest) t = first-within rest (and-right (leb n 11) _ (and-right (not (eqb n 0)) _ t))
+
+-- tests that refuse do so whatever comes behind them
+pub first-front : (front rest : List (ℕ × Bool)) → (firstOf front ≡ 0 → ⊥) → firstOf (front ++ rest) ≡ firstOf front
+unfolding firstOf
+first-front [] rest z = absurd (z refl)
+first-front ((n, true) ∷ front) rest z = refl
+first-front ((n, false) ∷ front) rest z = first-front front rest z

@@ -13,9 +13,13 @@ use Rattle.sha256.specs.Running.{OneValue}
 use Rattle.sha256.specs.declared.compress.State.{State}
 use Rattle.sha256.specs.declared.running.Hash.{Hash}
 
--- the eight words are the struct
+-- the struct of eight words
+abbrev pub stateOf : Value → State
+stateOf v = record { a = v .a; b = v .b; c = v .c; d = v .d; e = v .e; f = v .f; g = v .g; h = v .h }
+
+-- the words are the struct
 struct : {s z : State} → valueOf s ≡ valueOf z → s ≡ z
-struct {s} {z} e = ap (λ (v : Value). record { a = v .a; b = v .b; c = v .c; d = v .d; e = v .e; f = v .f; g = v .g; h = v .h }) e
+struct e = ap stateOf e
 
 same : {s z : State} {t u : List ℕ} {n k : ℕ} → s ≡ z → t ≡ u → n ≡ k
     → _≡_ {A = Hash} (record { state = s; tail = t; length = n }) (record { state = z; tail = u; length = k })

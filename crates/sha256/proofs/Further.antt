@@ -11,30 +11,26 @@ use Rattle.seqs.specs.Blocks.{after}
 use Rattle.seqs.specs.Words.{big}
 use Rattle.seqs.proofs.Taking.{holds-more}
 use Rattle.seqs.proofs.Ending.{same-end}
-use Rattle.sha256.specs.Value.{Value}
 use Rattle.sha256.specs.Layout.{valueOf}
 use Rattle.sha256.specs.Constants.{initial}
 use Rattle.sha256.specs.Compress.{step, output}
 use Rattle.sha256.specs.Sha256.{sha256}
 use Rattle.sha256.specs.Running.{Running, most}
-use Rattle.sha256.specs.declared.compress.State.{State}
 use Rattle.sha256.specs.declared.running.Hash.{Hash}
-
-struct : Value → State
-struct v = record { a = v .a; b = v .b; c = v .c; d = v .d; e = v .e; f = v .f; g = v .g; h = v .h }
+use Rattle.sha256.proofs.Alone.{stateOf}
 
 pub further : Hash → List ℕ → Hash
 further hash b =
     let bytes = take (hash .length % 64) (hash .tail) ++ b in
     let sum = hash .length % 64 + length b in
     record {
-      state = struct (after 64 step (valueOf (hash .state)) (sum / 64) bytes);
+      state = stateOf (after 64 step (valueOf (hash .state)) (sum / 64) bytes);
       tail = drop (64 * (sum / 64)) bytes ++ replicate (64 - sum % 64) 0;
       length = hash .length + length b;
     }
 
 pub further-runs : (hash : Hash) (b n : List ℕ) → Running hash n → length n + length b ≤ most → Running (further hash b) (n ++ b)
-unfolding further struct
+unfolding further
 further-runs hash b n r l =
     let at = hash .length % 64 in
     let sum = at + length b in
