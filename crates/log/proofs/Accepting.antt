@@ -57,8 +57,7 @@ module _ (log : Log) (m : List ℕ) (k p : ℕ) (hash : Hash)
 module _ (m : List ℕ) (resumes : Bool) (h : History) where
   pub accept-shape : (shapeNumber m ≡ 0 → ⊥) → acceptNumber h m resumes ≡ shapeNumber m
   unfolding acceptNumber shapeNumber
-  accept-shape z =
-      first-front ((10, overlong m) ∷ (1, misstated m) ∷ (1, misshapen m) ∷ []) ((7, isFinished m) ∷ (7, outOfTurn h m resumes) ∷ []) z
+  accept-shape z = first-front ((10, overlong m) ∷ (1, misstated m) ∷ (1, misshapen m) ∷ []) _ z
 
   module _ (f : Fine m) where
     pub accept-turn : (a b : Bool) → isFinished m ≡ a → outOfTurn h m resumes ≡ b → acceptNumber h m resumes ≡ pick a 7 (pick b 7 0)

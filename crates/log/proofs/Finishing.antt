@@ -9,7 +9,7 @@ use lib.ListN.{length, replicate}
 use borrow.Author.Tests.{eq-eqb, ne-eqb, not-true, not-false}
 use Rattle.seqs.specs.Pick.{pick}
 use Rattle.refusal.specs.First.{firstOf}
-use Rattle.refusal.proofs.First.{first-front}
+use Rattle.refusal.proofs.First.{first-passed, first-front}
 use Rattle.refusal.specs.Table.{refusalOf}
 use Rattle.refusal.specs.Listed.{listed, numbered}
 use Rattle.refusal.specs.declared.Refusal.{Refusal}
@@ -91,11 +91,9 @@ module _ (secret m : List ℕ) (h : History) where
 
   module _ (n : length secret ≡ 48) where
     finish-shape : (shapeNumber m ≡ 0 → ⊥) → finishNumber h secret m ≡ shapeNumber m
-    unfolding finishNumber shapeNumber firstOf
+    unfolding finishNumber shapeNumber
     finish-shape z =
-        rw (eq-eqb (length secret) 48 n)
-        (first-front ((10, overlong m) ∷ (1, misstated m) ∷ (1, misshapen m) ∷ [])
-        ((7, not (isFinished m && finishedDue (placeOf h))) ∷ (8, not (same (bodyOf m) (expectedValue h secret))) ∷ []) z)
+        first-passed 10 _ _ (rw (eq-eqb (length secret) 48 n)) ∙ first-front ((10, overlong m) ∷ (1, misstated m) ∷ (1, misshapen m) ∷ []) _ z
 
     pub finish-due : Fine m → (a b : Bool) → (isFinished m && finishedDue (placeOf h)) ≡ a → same (bodyOf m) (expectedValue h secret) ≡ b
         → finishNumber h secret m ≡ pick a (pick b 0 8) 7

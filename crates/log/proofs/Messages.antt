@@ -60,7 +60,7 @@ module _ (m : List ℕ) where
   -- the number of a header that is refused, and of one that is read
   pub shape-refused : (frameNumber m ≡ 0 → ⊥) → shapeNumber m ≡ frameNumber m
   unfolding frameNumber shapeNumber
-  shape-refused z = first-front ((10, overlong m) ∷ (1, misstated m) ∷ []) ((1, misshapen m) ∷ []) z
+  shape-refused z = first-front ((10, overlong m) ∷ (1, misstated m) ∷ []) _ z
 
   pub shape-whole : overlong m ≡ false → misstated m ≡ false → shapeNumber m ≡ pick (misshapen m) 1 0
   shape-whole p q = by-tests false false (misshapen m) p q refl

@@ -32,6 +32,11 @@ first-within [] t = omega arith
 first-within ((n, true) ∷ rest) t = leb-true n 11 (and-left _ (refusing rest) (and-right (not (eqb n 0)) _ t))
 first-within ((n, false) ∷ rest) t = first-within rest (and-right (leb n 11) _ (and-right (not (eqb n 0)) _ t))
 
+-- a test that does not hold is passed over
+pub first-passed : (n : ℕ) (b : Bool) (rest : List (ℕ × Bool)) → b ≡ false → firstOf ((n, b) ∷ rest) ≡ firstOf rest
+unfolding firstOf
+first-passed n b rest e = rw e
+
 -- tests that refuse do so whatever comes behind them
 pub first-front : (front rest : List (ℕ × Bool)) → (firstOf front ≡ 0 → ⊥) → firstOf (front ++ rest) ≡ firstOf front
 unfolding firstOf
