@@ -52,21 +52,18 @@ static void accept(void) /* of a handshake message, into a log */
 }
 
 #ifdef BEFORE
-AxleDigested before_axle_sha256(const uint8_t *message, size_t length);
-AxleHash before_axle_hash_fresh(void);
-AxleAbsorbed before_axle_hash_absorb(AxleHash hash, const uint8_t *bytes, size_t length);
-AxleDigest before_axle_hash_digest(AxleHash hash);
+#include "before.h"
 
 static void before(void)
 {
-    AxleDigested d = before_axle_sha256(input, length);
+    before_AxleDigested d = before_axle_sha256(input, length);
     memcpy(digest, d.digest, 32);
 }
 
 static void before_fed(void)
 {
-    AxleAbsorbed answer = before_axle_hash_absorb(before_axle_hash_fresh(), input, length);
-    AxleDigest d = before_axle_hash_digest(answer.hash);
+    before_AxleAbsorbed answer = before_axle_hash_absorb(before_axle_hash_fresh(), input, length);
+    before_AxleDigest d = before_axle_hash_digest(answer.hash);
     memcpy(digest, d.bytes, 32);
 }
 #endif

@@ -19,26 +19,28 @@ static uint8_t message[AXLE_MESSAGE_MAX];
 static size_t length;
 static reading told;
 
-static void tell(AxleClientReading r)
-{
-    told.version = r.hello.version;
-    told.identifier = (uint32_t)r.hello.identifier.length;
-    told.suites = (uint32_t)r.hello.suites.length / 2;
-    told.methods = (uint32_t)r.hello.methods.length;
-    memcpy(told.random, message + r.hello.random.at, sizeof told.random);
-    told.indicated = r.hello.extensions.indicated;
-    told.ems = r.hello.extensions.ems;
-    told.others = r.hello.extensions.others;
-    told.read = r.refusal.number == AXLE_DONE;
-}
+/* By the call of that name, ours or the earlier one, each with its own structs. */
+#define TELL(READING, READ)                                                   \
+    do {                                                                      \
+        READING r = READ(message, length);                                    \
+        told.version = r.hello.version;                                       \
+        told.identifier = (uint32_t)r.hello.identifier.length;                \
+        told.suites = (uint32_t)r.hello.suites.length / 2;                    \
+        told.methods = (uint32_t)r.hello.methods.length;                      \
+        memcpy(told.random, message + r.hello.random.at, sizeof told.random); \
+        told.indicated = r.hello.extensions.indicated;                        \
+        told.ems = r.hello.extensions.ems;                                    \
+        told.others = r.hello.extensions.others;                              \
+        told.read = r.refusal.number == AXLE_DONE;                            \
+    } while (0)
 
-static void ours(void) { tell(axle_read_client_hello(message, length)); }
+static void ours(void) { TELL(AxleClientReading, axle_read_client_hello); }
 static void tls_parser(void) { tls_parser_read(message, length, &told); }
 static void rustls(void) { rustls_read(message, length, &told); }
 
 #ifdef BEFORE
-AxleClientReading before_axle_read_client_hello(const uint8_t *message, size_t length);
-static void before(void) { tell(before_axle_read_client_hello(message, length)); }
+#include "before.h"
+static void before(void) { TELL(before_AxleClientReading, before_axle_read_client_hello); }
 #endif
 
 static const contestant all[] = {

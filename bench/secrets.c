@@ -85,13 +85,11 @@ static void mbedtls_secret(void)
 }
 
 #ifdef BEFORE
-AxleTagged before_axle_hmac(const uint8_t *key, size_t key_length, const uint8_t *message, size_t message_length);
-AxleRefusal before_axle_extended_master_secret(const uint8_t *pre_master, size_t pre_master_length, const uint8_t *session_hash,
-                                               size_t session_hash_length, uint8_t *out, size_t out_length);
+#include "before.h"
 
 static void before_hmac(void)
 {
-    AxleTagged t = before_axle_hmac(key, sizeof key, input, sizeof input);
+    before_AxleTagged t = before_axle_hmac(key, sizeof key, input, sizeof input);
     memcpy(tag, t.tag, 32);
 }
 

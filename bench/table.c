@@ -123,24 +123,21 @@ static void mbedtls_store_later(void)
 /* ---- An earlier build ---------------------------------------------------------------------------------------------- */
 
 #ifdef BEFORE
-AxleStored before_axle_table_store(AxleTable table, uint8_t axle, const uint8_t *identifier, size_t identifier_length, uint8_t ems,
-                                   const uint8_t *secret, size_t secret_length);
-AxleLooked before_axle_table_look_up(AxleTable table, uint8_t axle, const uint8_t *identifier, size_t identifier_length, uint8_t *out,
-                                     size_t out_length);
+#include "before.h"
 
-static AxleTable earlier;
+static before_AxleTable earlier, earlier_next;
 
-static void before_clear(void) { earlier = axle_table_fresh(); }
+static void before_clear(void) { earlier = before_axle_table_fresh(); }
 
 static void before_store(void)
 {
-    AxleStored answer = before_axle_table_store(earlier, axle, identifier, sizeof identifier, 1, secret, sizeof secret);
+    before_AxleStored answer = before_axle_table_store(earlier, axle, identifier, sizeof identifier, 1, secret, sizeof secret);
     earlier = answer.table;
 }
 
 static void before_store_aside(void)
 {
-    next = before_axle_table_store(earlier, axle, identifier, sizeof identifier, 1, secret, sizeof secret).table;
+    earlier_next = before_axle_table_store(earlier, axle, identifier, sizeof identifier, 1, secret, sizeof secret).table;
 }
 
 static int before_found(void)

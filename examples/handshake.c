@@ -15,7 +15,7 @@ static const AxleSwitches strict = {1, 0, 0};
 static void done(AxleRefusal refusal, const char *what)
 {
     if (refusal.number != AXLE_DONE) {
-        printf("%s refused with %d, alert %d %d\n", what, refusal.number, refusal.level, refusal.code);
+        printf("%s refused with %d, alert %d %d, place %zu\n", what, refusal.number, refusal.level, refusal.code, refusal.place);
         exit(1);
     }
 }

@@ -47,10 +47,10 @@ extern "C" {
 /* The first number is 0 for as long as a struct or a call may change from one minor version to the next; a patch changes
  * neither. So the shared library's soname has the first two. tools/build reads the numbers here. */
 #define AXLE_GATEWAY_VERSION_MAJOR 0
-#define AXLE_GATEWAY_VERSION_MINOR 4
+#define AXLE_GATEWAY_VERSION_MINOR 5
 #define AXLE_GATEWAY_VERSION_PATCH 0
-#define AXLE_GATEWAY_VERSION "0.4.0"
-/* for #if: 400 is 0.4.0, 10203 is 1.2.3 */
+#define AXLE_GATEWAY_VERSION "0.5.0"
+/* for #if: 500 is 0.5.0, 10203 is 1.2.3 */
 #define AXLE_GATEWAY_VERSION_NUMBER \
     (AXLE_GATEWAY_VERSION_MAJOR * 10000 + AXLE_GATEWAY_VERSION_MINOR * 100 + AXLE_GATEWAY_VERSION_PATCH)
 
@@ -102,14 +102,20 @@ enum {
 
 enum { AXLE_ALERT_NONE = 0, AXLE_ALERT_WARNING = 1, AXLE_ALERT_FATAL = 2 };
 
-/* A number with its alert. Done is number 0 and no alert. */
+/* A number with its alert and its place. Done is number 0 and no alert.
+ *
+ * The place is where a message broke: bytes counted from 0 at the first one of the message that the call was lent, header
+ * included, and at most its length. It goes with a 1 or 2 that comes from a message; 0 is a real place there, the first byte.
+ * With every other number, from axle_refusal and from the writers it is 0 and means nothing. Which place it is,
+ * axle_read_client_hello and axle_log_accept say. */
 typedef struct {
     uint8_t number;
     uint8_t level; /* AXLE_ALERT_NONE, _WARNING or _FATAL */
     uint8_t code;  /* AlertDescription of RFC 5246, section 7.2; 0 where there is no alert */
+    size_t place;  /* with 1 and 2 where the message broke; else 0 */
 } AxleRefusal;
 
-/* The alert that goes with a number; none for a number that the table does not have. */
+/* The alert that goes with a number, with place 0; none for a number that the table does not have. */
 AxleRefusal axle_refusal(uint8_t number);
 
 /* ---- SHA-256 ---------------------------------------------------------------------------------------------------- */
@@ -214,16 +220,25 @@ typedef struct {
 } AxleServerHello;
 
 typedef struct {
-    AxleRefusal refusal;   /* 0, 1, 2, 3 or 10 */
+    AxleRefusal refusal;   /* 0, 1, 2, 3 or 10; with 1 and 2 the place */
     AxleClientHello hello; /* refused: zeros */
 } AxleClientReading;
 
 typedef struct {
-    AxleRefusal refusal;   /* 0, 1, 2, 3 or 10 */
+    AxleRefusal refusal;   /* 0, 1, 2, 3 or 10; with 1 and 2 the place */
     AxleServerHello hello; /* refused: zeros */
 } AxleServerReading;
 
 /* Reads one whole handshake message, header included: its fields, or the first fault.
+ *
+ * Where a malformed one broke (1): fields are judged in order, the type first, each extension by type, length and shape, and
+ * the first that is wrong counts. The place is
+ *   its own, for a type other than asked, or a length that is outside its bounds, claims more than is left, or must fit exactly
+ *       and does not: the message's, the block's, the length byte of renegotiation_info
+ *   the end of what holds it, for a field that is cut off there
+ *   that of the first byte, for data in extended_master_secret
+ * Where a type comes again (2): the earliest that repeats one before it, of types A B B A the second B. The number is chosen
+ * first, so a hello that is malformed behind a repeat is 1.
  *
  * What it costs at most: every pair of extension types is compared. A ClientHello of 16,388 bytes with 4,085 extensions takes
  * 22 to 30 ms (docs/PERFORMANCE.md), so 33 to 45 of them a second fill a core. Only the caller can bound that, by the length
@@ -257,7 +272,7 @@ enum {
 };
 
 typedef struct {
-    AxleRefusal refusal; /* 0, 1, 2, 3 or 10 */
+    AxleRefusal refusal; /* 0, 1, 2, 3 or 10, all with place 0: there is no message yet */
     size_t length;       /* how many bytes the message has; refused: 0 */
 } AxleWritten;
 
@@ -413,7 +428,7 @@ typedef struct {
 } AxleSwitches;
 
 typedef struct {
-    AxleRefusal refusal; /* refused: all else is zero */
+    AxleRefusal refusal; /* with 1 and 2 the place in the hello; refused: all else is zero */
     uint8_t resumes;     /* an abbreviated handshake; else a full one */
     uint8_t ems;         /* with extended_master_secret; else a legacy outcome */
     uint8_t indication;  /* the flag that completion will write */
@@ -425,8 +440,8 @@ typedef struct {
 
 /* The server's decision on a ClientHello of this axle. The reply, which is the extension block of our ServerHello (with its
  * 2-byte length, or nothing at all), goes to the front of `out`; what stands behind it stays. axle_next_extension on the reply,
- * from place 2 on, hands out the list for axle_write_server_hello. 11 for the axle; 10, 1, 2, 3 for the hello; 9 or 5 for
- * renegotiation; 6 for the master secret rule; last 10 where `out` is shorter than this reply.
+ * from place 2 on, hands out the list for axle_write_server_hello. 11 for the axle; 10, 1, 2, 3 for the hello, with the place
+ * that reading it answers; 9 or 5 for renegotiation; 6 for the master secret rule; last 10 where `out` is shorter than the reply.
  *
  * It reads the hello, so it costs what reading costs: 22 to 30 ms for 16,388 bytes with 4,085 extensions, and 33 to 45 of them
  * a second fill a core. Bound the length that an axle may send before it is known. */
@@ -435,8 +450,8 @@ AxleDecision axle_decide_server(const uint8_t *message, size_t length, uint8_t a
 
 /* The client's decision on a ServerHello that answers our own hello: `offered` is the identifier that it offered, empty for
  * none, and `session` tells whether a session is lent along, with its own `identifier` and `ems`. 11 for an offer over 32
- * bytes or without a session that bears it; 10, 1, 2, 3, 4 for the hello; 7 or 5 for renegotiation; 6 for the master secret
- * rule. */
+ * bytes or without a session that bears it; 10, 1, 2, 3, 4 for the hello, with the place that reading it answers; 7 or 5 for
+ * renegotiation; 6 for the master secret rule. */
 AxleDecision axle_decide_client(const uint8_t *message, size_t length, const uint8_t *offered, size_t offered_length,
                                 uint8_t session, const uint8_t *identifier, size_t identifier_length, uint8_t ems,
                                 AxleConnection connection, AxleSwitches switches);
@@ -453,7 +468,7 @@ typedef struct {
 } AxleLog;
 
 typedef struct {
-    AxleRefusal refusal; /* 0, 1, 7 or 10; of axle_log_finish 8 besides */
+    AxleRefusal refusal; /* 0, 1 with its place, 7 or 10; of axle_log_finish 8 besides */
     AxleLog log;         /* the next state; refused: the one passed */
 } AxleAccepted;
 
@@ -472,7 +487,10 @@ AxleLog axle_log_fresh(void);
 
 /* Accepts the next handshake message, header included, or refuses it: 10 over 16,388 bytes, 1 malformed, 7 out of turn.
  * `resumes` tells, with a ServerHello, whether it resumes; with other messages it is of no account. A Finished of 12 bytes is
- * 7 here, due or not: axle_log_finish takes it. */
+ * 7 here, due or not: axle_log_finish takes it.
+ *
+ * The log judges the header alone, so a malformed message broke where under 4 bytes end (the place is how many there are), or at
+ * its length, place 1: it is not that of the body, not 0 with type 0, or not 12 with a Finished. */
 AxleAccepted axle_log_accept(AxleLog log, const uint8_t *message, size_t length, uint8_t resumes);
 
 /* The same, on a log in place. */
@@ -489,7 +507,7 @@ AxleSessionHash axle_log_session_hash(AxleLog log);
 /* Checks a Finished against this 48-byte master secret and takes it: the log has then accepted it. Refused, with the log as it
  * was, by the first of these that applies:
  *   10  secret not of 48 bytes; message over 16,388
- *    1  malformed; the body of a Finished has 12 bytes
+ *    1  malformed, with the place that axle_log_accept has; the body of a Finished has 12 bytes
  *    7  another type than Finished, in turn or not; no Finished due
  *    8  its value differs
  * The values are compared without an early exit. */
@@ -523,32 +541,32 @@ AxleRefusal axle_complete(AxleConnection *connection, AxleLog log, AxleDecision 
 enum {
     AXLE_STACK_REFUSAL = 8,
     AXLE_STACK_HASH_FRESH = 8,
-    AXLE_STACK_HASH_ABSORB = 784,
+    AXLE_STACK_HASH_ABSORB = 800,
     AXLE_STACK_HASH_DIGEST = 528,
     AXLE_STACK_SHA256 = 704,
     AXLE_STACK_HMAC = 1056,
     AXLE_STACK_EXTENDED_MASTER_SECRET = 1568,
     AXLE_STACK_MASTER_SECRET = 1712,
     AXLE_STACK_READ_CLIENT_HELLO = 800,
-    AXLE_STACK_READ_SERVER_HELLO = 688,
+    AXLE_STACK_READ_SERVER_HELLO = 704,
     AXLE_STACK_NEXT_EXTENSION = 8,
-    AXLE_STACK_WRITE_CLIENT_HELLO = 168,
-    AXLE_STACK_WRITE_SERVER_HELLO = 160,
+    AXLE_STACK_WRITE_CLIENT_HELLO = 184,
+    AXLE_STACK_WRITE_SERVER_HELLO = 192,
     AXLE_STACK_TABLE_FRESH = 8,
-    AXLE_STACK_TABLE_STORE = 10824,
-    AXLE_STACK_TABLE_LOOK_UP = 8104,
-    AXLE_STACK_TABLE_WITHDRAW = 8088,
+    AXLE_STACK_TABLE_STORE = 10840,
+    AXLE_STACK_TABLE_LOOK_UP = 8120,
+    AXLE_STACK_TABLE_WITHDRAW = 8120,
     AXLE_STACK_TABLE_HELD = 5368,
-    AXLE_STACK_TABLE_CLEAR = 5368,
+    AXLE_STACK_TABLE_CLEAR = 5384,
     AXLE_STACK_CONNECTION_FRESH = 8,
-    AXLE_STACK_DECIDE_SERVER = 8880,
-    AXLE_STACK_DECIDE_CLIENT = 736,
+    AXLE_STACK_DECIDE_SERVER = 8848,
+    AXLE_STACK_DECIDE_CLIENT = 752,
     AXLE_STACK_LOG_FRESH = 8,
-    AXLE_STACK_LOG_ACCEPT = 1168,
+    AXLE_STACK_LOG_ACCEPT = 1184,
     AXLE_STACK_LOG_SESSION_HASH = 224,
-    AXLE_STACK_LOG_FINISH = 1840,
+    AXLE_STACK_LOG_FINISH = 1872,
     AXLE_STACK_LOG_EXPECTED_FINISHED = 1440,
-    AXLE_STACK_COMPLETE = 248
+    AXLE_STACK_COMPLETE = 264
 };
 
 #ifdef __cplusplus

@@ -1,4 +1,5 @@
-"""Document 01, 'Connection record', 'Server's decision', 'Client's decision'."""
+"""Document 01, 'Connection record', 'Server's decision', 'Client's decision'. The place of a 1 or 2 (order 9 of document 02) is
+the reading's."""
 
 from dataclasses import dataclass
 
@@ -24,6 +25,7 @@ class Switches:
 @dataclass(frozen=True)
 class Decision:
     number: int
+    place: int = 0  # of 1 and 2
     resumes: bool = False
     ems: bool = False
     indication: bool = False
@@ -59,14 +61,14 @@ def reply(record, decision):
 def server(message, axle, find, record, switches, out):
     """(Decision, out afterwards, length of the reply). find(axle, identifier) answers None or whether the session has EMS."""
 
-    def refused(n):
-        return Decision(n), out, 0
+    def refused(number, place=0):
+        return Decision(number, place), out, 0
 
     if not 1 <= axle <= 6:
         return refused(11)
-    number, hello = read_client_hello(message)
+    number, place, hello = read_client_hello(message)
     if number:
-        return refused(number)
+        return refused(number, place)
     ri = hello.renegotiation_info
     if not record.completed:
         flag = hello.signal or ri is not None
@@ -106,9 +108,9 @@ def client(message, offered, session, record, switches):
     """session: None, or (identifier, whether it has EMS)."""
     if len(offered) > 32 or (offered and (session is None or session[0] != offered)):
         return Decision(11)
-    number, hello = read_server_hello(message)
+    number, place, hello = read_server_hello(message)
     if number:
-        return Decision(number)
+        return Decision(number, place)
     if any(t not in (RI, EMS) for t, _ in hello.extensions):
         return Decision(4)
     ri = hello.renegotiation_info

@@ -1,4 +1,4 @@
-"""Document 01, 'Reading a hello', and order 1 of document 02, 'Write whole hellos'."""
+"""Document 01, 'Reading a hello'; document 02, order 1, 'Write whole hellos', and order 9, 'Tell us where the message broke'."""
 
 from dataclasses import dataclass, field
 
@@ -9,29 +9,53 @@ SIGNAL = b"\x00\xff"
 
 
 class Malformed(Exception):
-    pass
+    """The message broke at this place, counted from 0."""
+
+    def __init__(self, place):
+        self.place = place
 
 
 class Reader:
-    """Takes fields off the front; whatever is not there is malformed."""
+    """Takes fields off the front of what stands in a message from place `at` to place `end`. It knows its place."""
 
-    def __init__(self, data):
-        self.data = data
+    def __init__(self, message, at=0, end=None):
+        self.message, self.at, self.end = message, at, len(message) if end is None else end
+
+    @property
+    def left(self):
+        return self.end - self.at
 
     def take(self, n):
-        if len(self.data) < n:
-            raise Malformed
-        head, self.data = self.data[:n], self.data[n:]
-        return head
+        """Where it is not all there: "a field cut off by the end of what holds it gives that end"."""
+        if self.left < n:
+            raise Malformed(self.end)
+        self.at += n
+        return self.message[self.at - n : self.at]
 
     def number(self, width):
         return int.from_bytes(self.take(width), "big")
 
-    def vector(self, width, low, high):
-        n = self.number(width)
-        if not low <= n <= high:
-            raise Malformed
-        return self.take(n)
+    def length(self, width, bounds):
+        """Where it is wrong: "a field out of its bounds, a length that claims more than is left, or one that must fit exactly and
+        doesn't, gives the field's own place"."""
+        place, n = self.at, self.number(width)
+        if n not in bounds or n > self.left:
+            raise Malformed(place)
+        return n
+
+    def exactly(self, width):
+        """A length that covers exactly the rest."""
+        return self.length(width, [self.left - width])
+
+    def part(self, width, bounds):
+        """A length, and a reader of the bytes behind it."""
+        n = self.length(width, bounds)
+        self.at += n
+        return Reader(self.message, self.at - n, self.at)
+
+    def vector(self, width, bounds):
+        part = self.part(width, bounds)
+        return part.take(part.left)
 
 
 @dataclass
@@ -62,62 +86,76 @@ class Hello:
         return None if data is None else data[1:]
 
 
-def frame(message):
-    """(type, body), or Malformed."""
-    if len(message) < 4 or int.from_bytes(message[1:4], "big") != len(message) - 4:
-        raise Malformed
-    return message[0], message[4:]
+def header(reader, wanted=None):
+    """Type (1 byte), body length (3 bytes, big-endian) and exactly that body: the type. A hello's is wanted, and judged first."""
+    kind = reader.number(1)
+    if wanted not in (None, kind):
+        raise Malformed(0)
+    reader.exactly(3)
+    return kind
+
+
+def judge_shape(kind, data):
+    """EMS has no data ("data in an EMS gives its first byte"), RI one length byte and exactly that many bytes. data: a reader."""
+    if kind == EMS and data.left:
+        raise Malformed(data.at)
+    if kind == RI:
+        data.exactly(1)
 
 
 def misshapen(kind, data):
-    return bool(data) if kind == EMS else kind == RI and (not data or data[0] != len(data) - 1)
+    """The same of data that stands in no message yet."""
+    try:
+        judge_shape(kind, Reader(data))
+    except Malformed:
+        return True
+    return False
 
 
 def _extensions(reader):
-    if not reader.data:
+    """(is there a block?, (place, type, data) of each extension in it)"""
+    if not reader.left:
         return False, []
-    if reader.number(2) != len(reader.data):
-        raise Malformed
+    reader.exactly(2)
     found = []
-    while reader.data:
-        kind = reader.number(2)
-        data = reader.take(reader.number(2))
-        if misshapen(kind, data):
-            raise Malformed
-        found.append((kind, data))
+    while reader.left:
+        place, kind, data = reader.at, reader.number(2), reader.part(2, range(65_536))
+        judge_shape(kind, data)
+        found.append((place, kind, reader.message[place + 4 : reader.at]))
     return True, found
+
+
+def repeat_place(extensions):
+    """That of "the earliest type that repeats one before it", or None."""
+    types = [kind for _, kind, _ in extensions]
+    return next((place for i, (place, kind, _) in enumerate(extensions) if kind in types[:i]), None)
 
 
 def _read(message, kind, suites_and_methods, version_fault):
     if len(message) > MESSAGE_LIMIT:
-        return 10, None
+        return 10, 0, None
+    r = Reader(message)
     try:
-        stated, body = frame(message)
-        if stated != kind:
-            raise Malformed
-        r = Reader(body)
+        header(r, kind)
         version, random = r.number(2), r.take(32)
-        identifier = r.vector(1, 0, 32)
+        identifier = r.vector(1, range(33))
         suites, methods = suites_and_methods(r)
         block, extensions = _extensions(r)
-    except Malformed:
-        return 1, None
-    types = [t for t, _ in extensions]
-    if len(set(types)) != len(types):
-        return 2, None
+    except Malformed as broken:
+        return 1, broken.place, None
+    place = repeat_place(extensions)
+    if place is not None:
+        return 2, place, None
     if version_fault(version):
-        return 3, None
-    return 0, Hello(version, random, identifier, suites, methods, block, extensions)
+        return 3, 0, None
+    return 0, 0, Hello(version, random, identifier, suites, methods, block, [(kind, data) for _, kind, data in extensions])
 
 
 def read_client_hello(message):
-    """(number, Hello or None)"""
+    """(number, place, Hello or None)"""
 
     def suites_and_methods(r):
-        suites = r.vector(2, 2, 65_534)
-        if len(suites) % 2:
-            raise Malformed
-        return suites, r.vector(1, 1, 255)
+        return r.vector(2, range(2, 65_535, 2)), r.vector(1, range(1, 256))
 
     return _read(message, 1, suites_and_methods, lambda v: v < 0x0303)
 
@@ -128,12 +166,12 @@ def read_server_hello(message):
 
 def next_extension(message, at):
     """(type, place of its data, length of its data, place behind it), or None where no whole extension stands there."""
-    reader = Reader(message[at:])
+    reader = Reader(message, at)
     try:
-        kind, data = reader.number(2), reader.vector(2, 0, 65_535)
+        kind, data = reader.number(2), reader.part(2, range(65_536))
     except Malformed:
         return None
-    return kind, at + 4, len(data), at + 4 + len(data)
+    return kind, data.at, data.left, data.end
 
 
 def _vector(width, data):
@@ -163,7 +201,7 @@ def _write(kind, version, wrong_version, random, identifier, bounded, rest, bloc
 
 
 def write_client_hello(version, random, identifier, suites, methods, block, types, lengths, data, room):
-    """(number, message): nothing where refused. room: how many bytes the output has."""
+    """(number, message): nothing where refused, and no place, since no message was read. room: bytes that the output has."""
     bounded = 2 <= len(suites) <= 65_534 and len(suites) % 2 == 0 and 1 <= len(methods) <= 255
 
     def rest():

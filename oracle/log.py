@@ -1,10 +1,11 @@
-"""Document 01, 'The message log', and order 6 of document 02, 'Join the Finished check and the taking'."""
+"""Document 01, 'The message log'; document 02, order 6, 'Join the Finished check and the taking', and order 9, 'Tell us where
+the message broke'."""
 
 import hashlib
 import re
 
 from .decision import Connection
-from .hello import MESSAGE_LIMIT, Malformed, frame
+from .hello import MESSAGE_LIMIT, Malformed, Reader, header
 from .secrets import verify_data
 
 # One letter a message; a Finished is C (client's) or S (server's). `?` marks what may be left out.
@@ -44,33 +45,36 @@ class Log:
         return None
 
     @staticmethod
-    def _frame_fault(message):
+    def _fault(message):
+        """(number, place) of bytes that are no message, whatever its turn; else None."""
         if len(message) > MESSAGE_LIMIT:
-            return 10
+            return 10, 0
+        reader = Reader(message)
         try:
-            kind, body = frame(message)
-        except Malformed:
-            return 1
-        if (kind == 0 and body) or (kind == 20 and len(body) != 12):
-            return 1
-        return 0
+            kind = header(reader)
+        except Malformed as broken:
+            return 1, broken.place
+        if (kind == 0 and reader.left) or (kind == 20 and reader.left != 12):
+            return 1, 1  # "a Finished or type 0 body of wrong length gives 1, the place of the length"
+        return None
 
     def accept(self, message, resumes=False):
-        fault = self._frame_fault(message)
+        """(number, place)"""
+        fault = self._fault(message)
         if fault:
             return fault
         kind = message[0]
         if kind == 0:
-            return 0
+            return 0, 0
         letter = LETTER.get(kind)  # a Finished has none: it is for `finish`
         if letter is None or not in_order(self.word + letter, self.resumed):
-            return 7
+            return 7, 0
         if kind == 2:
             self.resumed = resumes
         self._take(letter, message)
         if kind == 16:
             self.session = hashlib.sha256(self.hashed).digest()
-        return 0
+        return 0, 0
 
     def _take(self, letter, message):
         self.word += letter
@@ -93,20 +97,20 @@ class Log:
         return 0, self._value(secret, side)
 
     def finish(self, secret, message):
-        """number"""
+        """(number, place)"""
         if len(secret) != 48:
-            return 10
-        fault = self._frame_fault(message)
+            return 10, 0
+        fault = self._fault(message)
         if fault:
             return fault
         side = self._due()
         if message[0] != 20 or side is None:
-            return 7
+            return 7, 0
         if message[4:] != self._value(secret, side):
-            return 8
+            return 8, 0
         self.values[side] = message[4:]
         self._take(side, message)
-        return 0
+        return 0, 0
 
     @property
     def complete(self):

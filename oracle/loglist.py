@@ -1,10 +1,11 @@
-"""Document 01, program `loglist`; a Finished by order 6 of document 02."""
+"""Document 01, program `loglist`; a Finished by order 6 of document 02, the place by order 9."""
 
 import sys
 
 from . import decision
 from .book import Book
 from .log import Log
+from .numbers import PLACED
 
 LIMIT = 32_768
 SECRET = bytes(48)  # a case has none
@@ -30,8 +31,13 @@ def contents(case):
 
 
 def fed(log, body):
-    """number"""
+    """(number, place)"""
     return log.finish(SECRET, body) if body[:1] == b"\x14" else log.accept(body)
+
+
+def column(number, place):
+    """With its place "after the number with a colon, as `1:17`"."""
+    return f"{number}:{place}" if number in PLACED else f"{number}"
 
 
 def loglist(case):
@@ -42,12 +48,12 @@ def loglist(case):
         bodies = []
     log, table = Log(), Book()
     for i, body in enumerate(bodies, 1):
-        number = fed(log, body)
+        number, place = fed(log, body)
         hello = "-"
         if number == 0 and body[0] == 1:
             made, _, _ = decision.server(body, 1, table.known, decision.Connection(), decision.Switches(), bytes(64))
-            hello = made.number
-        lines.append(f"{i} {body[0] if body else '-'} {number} {hello}")
+            hello = column(made.number, made.place)
+        lines.append(f"{i} {body[0] if body else '-'} {column(number, place)} {hello}")
     return "\n".join(lines) + "\n"
 
 

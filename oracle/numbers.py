@@ -1,4 +1,4 @@
-"""Document 01, 'Numbers answered'."""
+"""Document 01, 'Numbers answered', and order 9 of document 02, 'Tell us where the message broke'."""
 
 NONE, WARNING, FATAL = 0, 1, 2
 
@@ -14,7 +14,9 @@ ALERTS = {
     9: (WARNING, 100),  # no_renegotiation
 }
 
+PLACED = (1, 2)  # the numbers that have a place where they come from a message; all else has place 0
 
-def refusal(number):
-    """(number, level, code); a number that the table does not have sends no alert."""
-    return (number, *ALERTS.get(number, (NONE, 0)))
+
+def refusal(number, place=0):
+    """(number, level, code, place); a number that the table does not have sends no alert."""
+    return (number, *ALERTS.get(number, (NONE, 0)), place)

@@ -38,10 +38,10 @@ def zeros(kind):
 
 
 class Refusal(c.Structure):
-    _fields_ = [("number", u8), ("level", u8), ("code", u8)]
+    _fields_ = [("number", u8), ("level", u8), ("code", u8), ("place", size)]
 
     def plain(self):
-        return self.number, self.level, self.code
+        return self.number, self.level, self.code, self.place
 
 
 CALLS = {}  # every call that is declared here: its function and the kinds of its arguments
@@ -288,10 +288,11 @@ def plain_decision(d):
     """(refusal, the second program's decision, length of the reply)"""
     flags = (d.resumes, d.ems, d.indication, d.bar, d.bars_export, d.bars_verify_data)
     assert all(f in (0, 1) for f in flags)
-    return d.refusal.plain(), oracle.Decision(d.refusal.number, *map(bool, flags)), d.reply_length
+    return d.refusal.plain(), oracle.Decision(d.refusal.number, d.refusal.place, *map(bool, flags)), d.reply_length
 
 
 def decision(d):
     """The second program's decision as a struct."""
-    flags = (d.resumes, d.ems, d.indication, d.bar, d.bars_export, d.bars_verify_data)
-    return Decision(refusal(d.number), *flags, 0)
+    refused, flags = refusal(d.number), (d.resumes, d.ems, d.indication, d.bar, d.bars_export, d.bars_verify_data)
+    refused.place = d.place
+    return Decision(refused, *flags, 0)

@@ -1,5 +1,5 @@
-/* What include/axle_gateway.h says beside the calls: versions, sizes, parts of what is absent, NULL with length 0, the lists of a
- * writer, and the functions that keep a state in place. It is C99 and C++ at once; each case that is not so is a line, and the last
+/* What include/axle_gateway.h says beside the calls: versions, sizes, parts of what is absent, places, NULL with length 0, the lists
+ * of a writer, and the functions that keep a state in place. It is C99 and C++ at once; each case that is not so is a line, and the last
  * line counts them all. */
 #include "axle_gateway.h"
 
@@ -55,8 +55,8 @@ static size_t hello(uint8_t *to, uint8_t type, const uint8_t *rest, size_t lengt
 
 /* ---- Version and sizes ------------------------------------------------------------------------------------------- */
 
-#if AXLE_GATEWAY_VERSION_NUMBER < 400
-#error "older than 0.4.0"
+#if AXLE_GATEWAY_VERSION_NUMBER < 500
+#error "older than 0.5.0"
 #endif
 
 static void versions(void)
@@ -156,6 +156,61 @@ static void parts(void)
     IS(refused.refusal.number == AXLE_MALFORMED && at(refused.hello.random, 0, 0) && at(refused.hello.extensions.list, 0, 0));
 }
 
+/* ---- Places ------------------------------------------------------------------------------------------------------- */
+
+static int broke(AxleRefusal refusal, uint8_t number, size_t place)
+{
+    return refusal.number == number && refusal.place == place;
+}
+
+/* Every call that is lent a hello with this block answers that number and place; `behind` counts from the block's length, which
+ * stands at place 45 of the ClientHello and 42 of the ServerHello. */
+static void hello_broke(const uint8_t *block, size_t length, uint8_t number, size_t behind)
+{
+    const AxleTable table = axle_table_fresh();
+    const AxleConnection fresh = axle_connection_fresh();
+    const AxleSwitches none = {0, 0, 0};
+    uint8_t out[AXLE_REPLY_MAX];
+    size_t n = hello(bytes, CLIENT_HELLO, block, length);
+    IS(broke(axle_read_client_hello(bytes, n).refusal, number, 45 + behind));
+    IS(broke(axle_decide_server(bytes, n, 1, table, fresh, none, out, sizeof out).refusal, number, 45 + behind));
+    IS(broke(axle_decide_server(bytes, n, 0, table, fresh, none, out, sizeof out).refusal, AXLE_AXLE_OR_IDENTIFIER, 0));
+    IS(broke(axle_read_server_hello(bytes, n).refusal, AXLE_MALFORMED, 0));
+    IS(broke(axle_log_accept(axle_log_fresh(), bytes, n, 0).refusal, AXLE_DONE, 0));
+    IS(broke(axle_read_client_hello(bytes, n - 1).refusal, AXLE_MALFORMED, 1));
+    n = hello(bytes, SERVER_HELLO, block, length);
+    IS(broke(axle_read_server_hello(bytes, n).refusal, number, 42 + behind));
+    IS(broke(axle_decide_client(bytes, n, NULL, 0, 0, NULL, 0, 0, fresh, none).refusal, number, 42 + behind));
+    IS(broke(axle_decide_client(bytes, n, name, 1, 0, NULL, 0, 0, fresh, none).refusal, AXLE_AXLE_OR_IDENTIFIER, 0));
+}
+
+static void places(void)
+{
+    static const uint8_t cut_off[] = {0}, too_long[] = {0, 1};
+    static const uint8_t long_extension[] = {0, 4, 0, 16, 0, 1};
+    static const uint8_t data_in_ems[] = {0, 5, 0, 23, 0, 1, 0};
+    static const uint8_t empty_ri[] = {0, 8, 0, 16, 0, 0, 255, 1, 0, 0};
+    static const uint8_t a_b_b_a[] = {0, 16, 0, 16, 0, 0, 0, 17, 0, 0, 0, 17, 0, 0, 0, 16, 0, 0};
+    static const uint8_t type_0[] = {0, 0, 0, 1, 9}, out_of_turn[] = {HELLO_DONE, 0, 0, 0};
+    AxleLog log = axle_log_fresh();
+    unsigned number;
+    IS(sizeof(AxleRefusal) == 2 * sizeof(size_t));
+    for (number = 0; number < 256 && broke(axle_refusal((uint8_t)number), (uint8_t)number, 0);)
+        number++;
+    IS(number == 256);
+    hello_broke(cut_off, sizeof cut_off, AXLE_MALFORMED, 1);
+    hello_broke(too_long, sizeof too_long, AXLE_MALFORMED, 0);
+    hello_broke(long_extension, sizeof long_extension, AXLE_MALFORMED, 4);
+    hello_broke(data_in_ems, sizeof data_in_ems, AXLE_MALFORMED, 6);
+    hello_broke(empty_ri, sizeof empty_ri, AXLE_MALFORMED, 10);
+    hello_broke(a_b_b_a, sizeof a_b_b_a, AXLE_EXTENSION_TWICE, 10);
+    IS(broke(axle_log_accept_in(&log, type_0, 3, 0), AXLE_MALFORMED, 3));
+    IS(broke(axle_log_accept_in(&log, type_0, sizeof type_0, 0), AXLE_MALFORMED, 1));
+    IS(broke(axle_log_accept_in(&log, out_of_turn, sizeof out_of_turn, 0), AXLE_OUT_OF_TURN, 0));
+    IS(broke(axle_log_finish_in(&log, secret, sizeof secret, type_0, 2), AXLE_MALFORMED, 2));
+    IS(broke(axle_log_finish_in(&log, secret, sizeof secret - 1, type_0, 2), AXLE_LENGTH, 0));
+}
+
 /* ---- Writing ------------------------------------------------------------------------------------------------------ */
 
 static const uint16_t types[] = {AXLE_TYPE_RENEGOTIATION_INFO, AXLE_TYPE_EXTENDED_MASTER_SECRET}, lengths[] = {1, 0};
@@ -213,8 +268,8 @@ static void writing(void)
     IS(answered(0x0303, AXLE_RANDOM_SIZE, AXLE_IDENTIFIER_MAX, NULL, 0, out, 73).refusal.number == AXLE_LENGTH);
     IS(answered(0x0303, AXLE_RANDOM_SIZE, AXLE_IDENTIFIER_MAX + 1, NULL, 0, out, sizeof out).refusal.number == AXLE_LENGTH);
     IS(answered(0x0303, AXLE_RANDOM_SIZE + 1, 0, NULL, 0, out, sizeof out).refusal.number == AXLE_LENGTH);
-    IS(answered(0x0303, AXLE_RANDOM_SIZE, 0, types, 2, out, sizeof out).refusal.number == AXLE_MALFORMED);
-    IS(answered(0x0303, AXLE_RANDOM_SIZE, 0, twice, 2, out, sizeof out).refusal.number == AXLE_EXTENSION_TWICE);
+    IS(broke(answered(0x0303, AXLE_RANDOM_SIZE, 0, types, 2, out, sizeof out).refusal, AXLE_MALFORMED, 0));
+    IS(broke(answered(0x0303, AXLE_RANDOM_SIZE, 0, twice, 2, out, sizeof out).refusal, AXLE_EXTENSION_TWICE, 0));
     IS(answered(0x0304, AXLE_RANDOM_SIZE, 0, twice, 1, out, sizeof out).refusal.number == AXLE_VERSION);
 
     /* the longest message fits into AXLE_MESSAGE_MAX bytes, and there is no longer one */
@@ -246,8 +301,8 @@ static void nulls(void)
     IS(axle_extended_master_secret(NULL, 0, NULL, 0, NULL, 0).number == AXLE_LENGTH);
     IS(axle_extended_master_secret(abc, sizeof abc, name, sizeof name, NULL, 0).number == AXLE_LENGTH);
     IS(axle_master_secret(NULL, 0, NULL, 0, NULL, 0).number == AXLE_LENGTH);
-    IS(axle_read_client_hello(NULL, 0).refusal.number == AXLE_MALFORMED);
-    IS(axle_read_server_hello(NULL, 0).refusal.number == AXLE_MALFORMED);
+    IS(broke(axle_read_client_hello(NULL, 0).refusal, AXLE_MALFORMED, 0));
+    IS(broke(axle_read_server_hello(NULL, 0).refusal, AXLE_MALFORMED, 0));
     IS(!axle_next_extension(NULL, 0, 0).found && !axle_next_extension(NULL, 0, 2).found);
     IS(axle_write_client_hello(0, NULL, 0, NULL, 0, NULL, 0, NULL, 0, 0, NULL, 0, NULL, 0, NULL, 0, NULL, 0).refusal.number
        == AXLE_LENGTH);
@@ -386,6 +441,7 @@ int main(void)
     versions();
     sizes();
     parts();
+    places();
     writing();
     nulls();
     hash_in_place();

@@ -26,6 +26,15 @@ ROOM = -(-LONGEST // PAGE) * PAGE
 LIBC = c.CDLL(None, use_errno=True)
 LIBC.mprotect.argtypes = [c.c_void_p, c.c_size_t, c.c_int]
 TABLE_NUMBERS = range(12)
+# which of its lent slices is the message that the place of a 1 or 2 counts in; other calls answer place 0 alone
+MESSAGES = {
+    "axle_read_client_hello": 0,
+    "axle_read_server_hello": 0,
+    "axle_decide_server": 0,
+    "axle_decide_client": 0,
+    "axle_log_accept": 0,
+    "axle_log_finish": 1,
+}
 # what a writer takes, and the reader of what it wrote
 WRITERS = {
     "axle_write_client_hello": (hellos.Client, face.read_client_hello),
@@ -148,6 +157,8 @@ def soak(seconds, seed, calls=float("inf")):
         if refusal is not None and name != "axle_refusal":
             assert refusal.number in TABLE_NUMBERS, (name, refusal.number)
             numbers.setdefault(name, set()).add(refusal.number)
+            placed = name in MESSAGES and refusal.number in (1, 2)
+            assert refusal.place <= (len(lent[MESSAGES[name]][2]) if placed else 0), (name, refusal.plain())
         refused = refusal is not None and refusal.number and name != "axle_refusal"
         if refused:  # the state is the one that was passed, and a lent record is as it was
             for state in (s for s in passed if isinstance(s, c.Structure)):

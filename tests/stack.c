@@ -134,7 +134,10 @@ static const Tail client_tails[] = {
     {29, 0, {0, 2, 0, 60, 1, 0, 0, 21, 255, 1, 0, 13, 12, ZEROS_12, 0, 23, 0, 0}},        /* RI of a later handshake */
     {21, 0, {0, 2, 0, 60, 1, 0, 0, 13, 255, 1, 0, 1, 0, 0, 23, 0, 0, 0, 16, 0, 0}},       /* and an unknown type */
     {21, 2, {0, 2, 0, 60, 1, 0, 0, 13, 255, 1, 0, 1, 0, 0, 23, 0, 0, 0, 23, 0, 0}},       /* a repeat */
+    {24, 2, {0, 2, 0, 60, 1, 0, 0, 16, 0, 16, 0, 0, 0, 23, 0, 0, 0, 23, 0, 0, 0, 16}},    /* two repeats */
     {13, 1, {0, 2, 0, 60, 1, 0, 0, 5, 0, 23, 0, 1, 0}},                                   /* data in EMS */
+    {13, 1, {0, 2, 0, 60, 1, 0, 0, 5, 255, 1, 0, 1, 1}},                                  /* RI that lacks a byte */
+    {12, 1, {0, 2, 0, 60, 1, 0, 0, 4, 0, 16, 0, 1}},                                      /* an extension that lacks one */
     {3, 1, {0, 1, 0}},                                                                    /* half a suite */
 };
 
@@ -145,6 +148,9 @@ static const Tail server_tails[] = {
     {38, 0, {0, 60, 0, 0, 33, 255, 1, 0, 25, 24, ZEROS_12, ZEROS_12, 0, 23, 0, 0}},       /* RI of a later handshake */
     {18, 0, {0, 60, 0, 0, 13, 255, 1, 0, 1, 0, 0, 23, 0, 0, 0, 16, 0, 0}},                /* and a type never offered */
     {13, 2, {0, 60, 0, 0, 8, 0, 23, 0, 0, 0, 23, 0, 0}},                                  /* a repeat */
+    {21, 2, {0, 60, 0, 0, 16, 0, 16, 0, 0, 0, 23, 0, 0, 0, 23, 0, 0, 0, 16}},             /* two repeats */
+    {10, 1, {0, 60, 0, 0, 5, 0, 23, 0, 1, 0}},                                            /* data in EMS */
+    {9, 1, {0, 60, 0, 0, 4, 0, 16, 0, 1}},                                                /* an extension that lacks a byte */
     {1, 1, {0}},                                                                          /* half a suite */
 };
 
@@ -167,12 +173,16 @@ static void hellos(void)
         size_t n = hello(read, CLIENT_HELLO, 32, client_tails[i]);
         must(axle_read_client_hello(read, n).refusal.number == client_tails[i].number, "a ClientHello");
         TRY(axle_read_client_hello, read, n);
+        TRY(axle_read_client_hello, read, n - 1);
+        TRY(axle_read_client_hello, read, 3);
         TRY(axle_read_server_hello, read, n);
     }
     for (size_t i = 0; i < SERVER_TAILS; i++) {
         size_t n = hello(read, SERVER_HELLO, 32, server_tails[i]);
         must(axle_read_server_hello(read, n).refusal.number == server_tails[i].number, "a ServerHello");
         TRY(axle_read_server_hello, read, n);
+        TRY(axle_read_server_hello, read, n - 1);
+        TRY(axle_read_server_hello, read, 3);
         TRY(axle_read_client_hello, read, n);
     }
     TRY(axle_read_client_hello, bytes, 16389);

@@ -173,7 +173,7 @@ def test_the_c_face_is_the_header_s():
     assert {name for name in NUMBERS if name.endswith(("_MAX", "_SIZE", "AXLES", "AN_AXLE"))} == {name for name, _ in consts}
     types = re.findall(r"pub const (\w+): u16 = (\w+);", (CRATE / "src/writing.rs").read_text())
     assert {f"TYPE_{name}": int(n, 0) for name, n in types} == {name: n for name, n in NUMBERS.items() if name.startswith("TYPE_")}
-    refusals = re.findall(r"^    (\w+) = (\d+),$", (CRATE / "src/refusal.rs").read_text().partition("pub enum Refusal")[2], re.M)
+    refusals = re.findall(r"Refusal::(\w+)(?: \{ \.\. \})? => (\d+),", (CRATE / "src/refusal.rs").read_text())
     shouted = [(re.sub(r"(?<!^)(?=[A-Z])", "_", name).upper(), int(n)) for name, n in refusals]
     assert shouted == [(name, NUMBERS[name]) for name, _ in shouted] and [n for _, n in shouted] == list(range(1, 12))
     return f"{len(structs)} structs, {len(calls)} calls, {len(consts)} sizes, {len(shouted)} refusals"

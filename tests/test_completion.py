@@ -48,7 +48,7 @@ def test_every_stage():
         found = []
         for p in stages(resumes):
             for says, ems, flag, refused in itertools.product((False, True), repeat=4):
-                decision = decisions.Decision(6) if refused else decided(says, ems, flag)
+                decision = decisions.Decision(1, 17) if refused else decided(says, ems, flag)
                 for record in (Connection(), Connection(True, True, False, b"c" * 12, b"s" * 12)):
                     number, after = agree(p, record, decision)
                     assert (number == 0) == (p.oracle.complete and not refused and says == resumes)
@@ -85,16 +85,18 @@ def test_two_real_handshakes_on_one_connection():
         made, reply, n = decisions.server(again, 1, lambda *_: None, record, switches, bytes(64))
         lent = face.lend(bytes(64))
         raw = face.decide_server(again, 1, table, face.connection(record), face.switches(switches), lent)
-        assert face.plain_decision(raw) == ((0, 0, 0), made, n) and bytes(lent) == reply
+        assert face.plain_decision(raw) == (numbers.refusal(0), made, n) and bytes(lent) == reply
 
 
 def test_flags_of_any_value():
+    """And of a refusal the number alone counts."""
     r = random.Random(1)
     *_, p = stages(True)
     for _ in range(200):
         raw = face.decision(decided(True))
         raw.resumes, raw.indication, raw.bar = (r.choice((0, 1, 2, 255)) for _ in range(3))
-        seen = decisions.Decision(0, bool(raw.resumes), True, bool(raw.indication), bool(raw.bar))
+        raw.refusal.level, raw.refusal.code, raw.refusal.place = r.randrange(256), r.randrange(256), r.randrange(2**64)
+        seen = decisions.Decision(0, resumes=bool(raw.resumes), ems=True, indication=bool(raw.indication), bar=bool(raw.bar))
         agree(p, Connection(), seen, raw)
 
 

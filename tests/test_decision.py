@@ -32,7 +32,8 @@ def server_agrees(message, axle, table, book, record, switches, out):
     made, after, length = oracle.server(message, axle, book.known, record, switches, out)
     lent = face.lend(out)
     got = face.decide_server(message, axle, table, face.connection(record), face.switches(switches), lent)
-    assert face.plain_decision(got) == (numbers.refusal(made.number), made, length), (message.hex(), made, face.plain_decision(got))
+    right = numbers.refusal(made.number, made.place), made, length
+    assert face.plain_decision(got) == right, (message.hex(), made, face.plain_decision(got))
     assert bytes(lent) == after
     return made, after[:length]
 
@@ -48,7 +49,7 @@ def client_agrees(message, offered, session, record, switches):
         face.connection(record),
         face.switches(switches),
     )
-    assert face.plain_decision(got) == (numbers.refusal(made.number), made, 0), (message.hex(), made)
+    assert face.plain_decision(got) == (numbers.refusal(made.number, made.place), made, 0), (message.hex(), made)
     return made
 
 
@@ -193,4 +194,4 @@ def test_flags_of_any_value():
         raw = face.connection(record)
         raw.completed, raw.indication, raw.barred = flags[:3]
         got = face.decide_server(hello, 3, table, raw, face.Switches(*flags[3:]), face.lend(PATTERN))
-        assert face.plain_decision(got) == (numbers.refusal(made.number), made, length)
+        assert face.plain_decision(got) == (numbers.refusal(made.number, made.place), made, length)

@@ -3,7 +3,7 @@
 import hashlib
 import random
 
-from oracle import secrets
+from oracle import numbers, secrets
 from tests import face, values
 
 # FIPS 180-4's examples (NIST, SHA256.pdf and the long message of FIPS 180-2): message, digest
@@ -20,6 +20,7 @@ PUBLISHED = [
     ),
     (b"a" * 1_000_000, "cdc76e5c9914fb9281a1c7e284d73e67f1809a48a497200e046d39ccc7112cd0"),
 ]
+DONE, TOO_LONG = numbers.refusal(0), numbers.refusal(10)
 
 
 def one_shot(message):
@@ -32,14 +33,14 @@ def absorbed(parts):
     h = face.hash_fresh()
     for part in parts:
         answer = face.hash_absorb(h, part)
-        assert answer.refusal.plain() == (0, 0, 0)
+        assert answer.refusal.plain() == DONE
         h = answer.hash
     return bytes(face.hash_digest(h).bytes)
 
 
 def test_published_vectors():
     for message, digest in PUBLISHED:
-        assert one_shot(message) == ((0, 0, 0), bytes.fromhex(digest))
+        assert one_shot(message) == (DONE, bytes.fromhex(digest))
         assert absorbed([message]).hex() == digest
 
 
@@ -57,17 +58,17 @@ def test_lengths_around_block_boundaries():
     lengths = {64 * b + d for b in blocks for d in (-9, -8, -1, 0, 1, 55, 56)}
     for n in sorted(lengths | {secrets.HASH_LIMIT - 1, secrets.HASH_LIMIT}):
         if 0 <= n <= secrets.HASH_LIMIT:
-            assert one_shot(message[:n]) == ((0, 0, 0), hashlib.sha256(message[:n]).digest()), n
+            assert one_shot(message[:n]) == (DONE, hashlib.sha256(message[:n]).digest()), n
 
 
 def test_the_limit():
     message = bytes(secrets.HASH_LIMIT + 1)
-    assert one_shot(message) == ((10, 0, 0), bytes(32))
+    assert one_shot(message) == (TOO_LONG, bytes(32))
     h = face.hash_absorb(face.hash_fresh(), message[:-1]).hash
     before = face.plain(h)
     for part in (b"x", message):
         answer = face.hash_absorb(h, part)
-        assert answer.refusal.plain() == (10, 0, 0)
+        assert answer.refusal.plain() == TOO_LONG
         assert face.plain(answer.hash) == before
     assert face.hash_absorb(h, b"").refusal.number == 0
     assert bytes(face.hash_digest(h).bytes) == hashlib.sha256(message[:-1]).digest()
@@ -112,7 +113,7 @@ def test_any_struct_value_ends():
         face.hash_digest(h)
         part = r.randbytes(r.randrange(200))
         answer = face.hash_absorb(h, part)
-        assert answer.refusal.number == (10 if h.length + len(part) > secrets.HASH_LIMIT else 0)
+        assert answer.refusal.plain() == (TOO_LONG if h.length + len(part) > secrets.HASH_LIMIT else DONE)
         seen.add(answer.refusal.number)
         if answer.refusal.number:
             assert face.plain(answer.hash) == face.plain(h)

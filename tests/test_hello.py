@@ -1,4 +1,5 @@
-"""Reading both hellos: the reader's answer is the second program's, field by field, for whole, damaged and hostile input."""
+"""Reading both hellos: the reader's answer is the second program's, field by field and with number, alert and place, for whole,
+damaged and hostile input."""
 
 import itertools
 import random
@@ -8,6 +9,7 @@ from oracle import hello as oracle
 from oracle import numbers
 from tests import face, hellos
 from tests.handshakes import full_and_resumed
+
 
 def client_fields(h, message):
     """The fields of our answer, cut out of the message, as the second program has them."""
@@ -23,16 +25,16 @@ def extension_fields(e, message):
     return e.block, e.list.of(message), indication, e.ems, e.others
 
 
-def agree(message):
-    """Both readers on one message. Answers the two numbers."""
+def answers(message):
+    """Both readers on one message. Answers number and place of each."""
     found = []
     for read, fields, theirs in (
         (face.read_client_hello, client_fields, oracle.read_client_hello),
         (face.read_server_hello, server_fields, oracle.read_server_hello),
     ):
-        number, hello = theirs(message)
+        number, place, hello = theirs(message)
         answer = read(message)
-        assert answer.refusal.plain() == numbers.refusal(number), (message.hex(), number)
+        assert answer.refusal.plain() == numbers.refusal(number, place), (message.hex(), answer.refusal.plain(), number, place)
         if number:
             assert face.plain(answer.hello) == face.zeros(type(answer.hello))
         else:
@@ -43,8 +45,13 @@ def agree(message):
             others = any(t not in (oracle.EMS, oracle.RI) for t, _ in hello.extensions)
             right = (hello.block, inside, hello.renegotiation_info, hello.ems, others)
             assert extension_fields(answer.hello.extensions, message) == right, message.hex()
-        found.append(number)
+        found.append((number, place))
     return found
+
+
+def agree(message):
+    """Both readers on one message. Answers the two numbers."""
+    return [number for number, _ in answers(message)]
 
 
 def samples():
@@ -62,7 +69,7 @@ def samples():
 
 def test_cases_of_document_01():
     block = lambda e: hellos.client_hello(extensions=bytes.fromhex(e))
-    _, fields = oracle.read_client_hello(block("ff01000100"))
+    *_, fields = oracle.read_client_hello(block("ff01000100"))
     assert fields.renegotiation_info == b""
     assert agree(block("ff01000100"))[0] == 0
     assert agree(block("00170000"))[0] == 0

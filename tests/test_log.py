@@ -32,9 +32,11 @@ class Pair:
 
     def __init__(self, log=None, oracle=None):
         self.log, self.oracle = log or face.log_fresh(), oracle or Oracle()
+        self.place = 0  # of the last message's refusal
 
-    def _keep(self, answer, number):
-        assert answer.refusal.plain() == numbers.refusal(number), (answer.refusal.number, number, self.oracle.word)
+    def _keep(self, answer, refused):
+        number, self.place = refused
+        assert answer.refusal.plain() == numbers.refusal(*refused), (answer.refusal.plain(), refused, self.oracle.word)
         if number:
             assert face.plain(answer.log) == face.plain(self.log)
         self.log = answer.log
@@ -178,7 +180,7 @@ def in_turn(r, p, choices=(1, 2, 11, 12, 13, 14, 15, 16)):
     for kind in r.sample(choices, len(choices)):
         trial = copied(p)
         m = hellos.message(kind, r.randbytes(r.choice((0, 1, 40, 300))))
-        if trial.oracle.accept(m, False) == 0:
+        if trial.oracle.accept(m, False) == (0, 0):
             return m
     return None
 
@@ -395,8 +397,10 @@ def test_any_struct_value_ends():
         secret = r.choice((SECRET, SECRET[1:]))
         accepted, finished = face.log_accept(log, m, r.randrange(256)), face.log_finish(log, secret, m)
         for call, answer in (("accept", accepted), ("finish", finished)):
-            seen.setdefault(call, set()).add(answer.refusal.number)
-            if answer.refusal.number:
+            number = answer.refusal.number
+            assert answer.refusal.plain() == (numbers.refusal(*Oracle._fault(m)) if number == 1 else numbers.refusal(number))
+            seen.setdefault(call, set()).add(number)
+            if number:
                 assert face.plain(answer.log) == face.plain(log)
         assert m[:1] != b"\x14" or accepted.refusal.number != 0
         taken = finished.refusal.number == 0

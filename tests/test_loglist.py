@@ -26,7 +26,7 @@ def agree(data):
 
 
 def log_column(said):
-    return [int(line.split()[2]) for line in said.splitlines()[1:]]
+    return [line.split()[2] for line in said.splitlines()[1:]]
 
 
 def test_example_of_document_01():
@@ -39,7 +39,7 @@ def test_contents():
     assert agree(b"") == header + "contents refused\n"
     assert agree(b"\x00") == header
     assert agree(b"\x00\x00") == header + "contents refused\n"
-    assert agree(case([b""])) == header + "1 - 1 -\n"
+    assert agree(case([b""])) == header + "1 - 1:0 -\n"
     good = case([bytes(16_384), bytes(16_379)])
     assert len(good) == LIMIT and "refused" not in agree(good)
     assert "refused" in agree(case([bytes(16_384), bytes(16_380)]))
@@ -52,7 +52,7 @@ def test_real_handshakes():
     """Their Finished were made under a real secret: 8 in a full one; in a resumed one none is due, since the log is not told."""
     for h in full_and_resumed(True) + full_and_resumed(False, False):
         said = agree(case([m for _, m in h.messages]))
-        assert log_column(said) == [(7 if h.resumed else 8) if m[0] == 20 else 0 for _, m in h.messages]
+        assert log_column(said) == [("7" if h.resumed else "8") if m[0] == 20 else "0" for _, m in h.messages]
 
 
 HELLO = hellos.client_hello(extensions=hellos.ri() + hellos.ems())
@@ -69,7 +69,7 @@ def handshake(*kinds):
     log.accept(HELLO)
     for kind in kinds:
         messages.append(due(log) if kind == 20 else hellos.message(kind, bytes([kind]) * 5))
-        assert fed(log, messages[-1]) == 0
+        assert fed(log, messages[-1]) == (0, 0)
     return messages
 
 
@@ -82,7 +82,7 @@ def test_both_finished_are_taken():
         for rest in ((14, 16), (13, 14, 11, 16), (13, 14, 11, 16, 15)):
             messages = handshake(2, *certificate, *exchange, *rest, 20, 20)
             third = [messages[-1], messages[-2], hellos.message(20, bytes(12)), HELLO, hellos.message(0, b"")]
-            assert log_column(agree(case(messages + third))) == [0] * len(messages) + [7, 7, 7, 7, 0]
+            assert log_column(agree(case(messages + third))) == ["0"] * len(messages) + ["7", "7", "7", "7", "0"]
             orders += 1
     return f"{orders} orders"
 
@@ -96,37 +96,37 @@ def test_finished_that_are_refused():
     for m in before:
         log.accept(m)
     steps = [
-        (client, 7),
-        (HELLO, 0),
-        (client, 7),
-        (before[1], 0),
-        (client, 7),  # the log was not told of resuming
-        (client[:3], 1),
-        (client[:1], 1),
-        (hellos.message(20, b""), 1),
-        (before[2], 0),
-        (before[3], 0),
-        (b"", 1),
-        (client[:-1], 1),
-        (client + b"\x00", 1),
-        (hellos.message(20, client[4:-1]), 1),
-        (hellos.message(20, client[4:] + b"\x00"), 1),
-        (client.ljust(16_389, b"\x00"), 10),
-        (wrong, 8),
-        (due(log, bytes(range(48))), 8),
-        (hellos.message(20, log._value(SECRET, "S")), 8),
-        (server, 8),
-        (nothing, 0),
-        (client, 0),
-        (client, 8),
-        (nothing, 0),
-        (hellos.message(0, client[4:]), 1),
-        (hellos.message(20, b"\x00" * 11), 1),
-        (server, 0),
-        (server, 7),
-        (server[:-1], 1),
+        (client, "7"),
+        (HELLO, "0"),
+        (client, "7"),
+        (before[1], "0"),
+        (client, "7"),  # the log was not told of resuming
+        (client[:3], "1:3"),
+        (client[:1], "1:1"),
+        (hellos.message(20, b""), "1:1"),
+        (before[2], "0"),
+        (before[3], "0"),
+        (b"", "1:0"),
+        (client[:-1], "1:1"),
+        (client + b"\x00", "1:1"),
+        (hellos.message(20, client[4:-1]), "1:1"),
+        (hellos.message(20, client[4:] + b"\x00"), "1:1"),
+        (client.ljust(16_389, b"\x00"), "10"),
+        (wrong, "8"),
+        (due(log, bytes(range(48))), "8"),
+        (hellos.message(20, log._value(SECRET, "S")), "8"),
+        (server, "8"),
+        (nothing, "0"),
+        (client, "0"),
+        (client, "8"),
+        (nothing, "0"),
+        (hellos.message(0, client[4:]), "1:1"),
+        (hellos.message(20, b"\x00" * 11), "1:1"),
+        (server, "0"),
+        (server, "7"),
+        (server[:-1], "1:1"),
     ]
-    assert log_column(agree(case([m for m, _ in steps]))) == [number for _, number in steps]
+    assert log_column(agree(case([m for m, _ in steps]))) == [column for _, column in steps]
 
 
 def test_random_handshakes():
@@ -137,9 +137,9 @@ def test_random_handshakes():
         log, messages = Log(), []
         for _ in range(30):
             others = [HELLO, *(hellos.message(kind, r.randbytes(r.randrange(20))) for kind in (0, 2, 11, 12, 13, 14, 15, 16))]
-            in_turn = [m for m in others if copy.deepcopy(log).accept(m) == 0]
+            in_turn = [m for m in others if copy.deepcopy(log).accept(m) == (0, 0)]
             m = r.choice((due(log), due(log), due(log, r.randbytes(48)), hellos.damaged(r, due(log)), *in_turn * 2, r.choice(others)))
-            number = fed(log, m)
+            number, _ = fed(log, m)
             messages.append(m)
             if m[:1] == b"\x14":
                 answered.add(number)

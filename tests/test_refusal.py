@@ -1,4 +1,4 @@
-"""Document 01, 'Numbers answered': every number that a byte can hold."""
+"""Document 01, 'Numbers answered': every number that a byte can hold, with its alert and no place."""
 
 from oracle import numbers
 from tests import face

@@ -47,8 +47,8 @@ def derived(call, pre_master, seed, out):
 def test_rfc_4231():
     for key, data, tag in RFC_4231:
         expected = bytes.fromhex(tag)
-        number, got = tagged(key, data)
-        assert number == (0, 0, 0) and got[: len(expected)] == expected
+        refused, got = tagged(key, data)
+        assert refused == numbers.refusal(0) and got[: len(expected)] == expected
         assert secrets.hmac(key, data)[1][: len(expected)] == expected
         agree(key, data)
 
@@ -118,4 +118,4 @@ def test_master_secrets_of_real_handshakes():
             got = derived(face.extended_master_secret, real.pre_master, seed, bytes(48))
         else:
             got = derived(face.master_secret, real.pre_master, messages[0][6:38] + messages[1][6:38], bytes(48))
-        assert got == ((0, 0, 0), real.master_secret)
+        assert got == (numbers.refusal(0), real.master_secret)

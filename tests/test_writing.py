@@ -421,7 +421,7 @@ def test_next_extension_on_hellos():
     seen = {}
     for _ in range(3000):
         message = hellos.some(r)
-        number, hello = (oracle.read_client_hello if message[0] == 1 else oracle.read_server_hello)(message)
+        number, _, hello = (oracle.read_client_hello if message[0] == 1 else oracle.read_server_hello)(message)
         counted(seen, number)
         if number == 0:
             list_at = READERS[message[0]](message).hello.extensions.list.at

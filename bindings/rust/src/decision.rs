@@ -162,10 +162,11 @@ impl fmt::Debug for Decision {
 }
 
 /// The server's decision on a ClientHello of this axle. The reply, the extension block of our ServerHello, goes to the
-/// front of `out`; the slice of it is answered with the decision. Refused for the axle; then for the hello, as reading it is; for
-/// renegotiation ([`RenegotiationClosed`](crate::Refusal::RenegotiationClosed) or [`Indication`](crate::Refusal::Indication)); by
-/// the [`MasterSecretRule`](crate::Refusal::MasterSecretRule); and as [`Length`](crate::Refusal::Length) where `out` is shorter
-/// than the reply, which has at most [`REPLY_MAX`](crate::REPLY_MAX) bytes.
+/// front of `out`; the slice of it is answered with the decision. Refused for the axle; then for the hello, as reading it is,
+/// with the same place; for renegotiation ([`RenegotiationClosed`](crate::Refusal::RenegotiationClosed) or
+/// [`Indication`](crate::Refusal::Indication)); by the [`MasterSecretRule`](crate::Refusal::MasterSecretRule); and as
+/// [`Length`](crate::Refusal::Length) where `out` is shorter than the reply, which has at most
+/// [`REPLY_MAX`](crate::REPLY_MAX) bytes.
 ///
 /// It costs what [reading](crate::read_client_hello) the hello costs: bound the length that an axle may send before it is known.
 pub fn decide_server<'a>(
@@ -193,8 +194,8 @@ pub fn decide_server<'a>(
 }
 
 /// The client's decision on a ServerHello that answers our own hello, which offered that session or none. Refused for an offer
-/// over 32 bytes (an empty one is none); then for the hello, as reading it is, or an extension that we never offer; for renegotiation
-/// ([`OutOfTurn`](crate::Refusal::OutOfTurn) or [`Indication`](crate::Refusal::Indication)); and by the
+/// over 32 bytes (an empty one is none); then for the hello, as reading it is, with the same place, or an extension that we never
+/// offer; for renegotiation ([`OutOfTurn`](crate::Refusal::OutOfTurn) or [`Indication`](crate::Refusal::Indication)); and by the
 /// [`MasterSecretRule`](crate::Refusal::MasterSecretRule).
 pub fn decide_client(
     message: &[u8],

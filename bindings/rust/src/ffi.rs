@@ -8,6 +8,7 @@ pub struct Refusal {
     pub number: u8,
     pub level: u8,
     pub code: u8,
+    pub place: usize,
 }
 
 #[repr(C)]

@@ -31,7 +31,8 @@ impl Log {
     }
 
     /// Accepts the next handshake message, header included. `resumes` is of account with a ServerHello alone. Refused as
-    /// [`Length`](crate::Refusal::Length) over 16,388 bytes, [`Malformed`](crate::Refusal::Malformed), or
+    /// [`Length`](crate::Refusal::Length) over 16,388 bytes, [`Malformed`](crate::Refusal::Malformed) with the place where the
+    /// header broke (how many bytes there are, if under 4; else 1, that of its length), or
     /// [`OutOfTurn`](crate::Refusal::OutOfTurn), as a Finished is here, due or not: [`Log::finish`] takes it.
     pub fn accept(&mut self, message: &[u8], resumes: bool) -> Result<()> {
         // SAFETY: the slice is good for its length and only read.
@@ -49,8 +50,9 @@ impl Log {
     }
 
     /// Checks a Finished and takes it: the log has then accepted it. Refused as [`Length`](crate::Refusal::Length),
-    /// [`Malformed`](crate::Refusal::Malformed), [`OutOfTurn`](crate::Refusal::OutOfTurn) where it is another message or none is
-    /// due, or [`FinishedDiffers`](crate::Refusal::FinishedDiffers).
+    /// [`Malformed`](crate::Refusal::Malformed) with the place as in [`accept`](Log::accept),
+    /// [`OutOfTurn`](crate::Refusal::OutOfTurn) where it is another message or none is due, or
+    /// [`FinishedDiffers`](crate::Refusal::FinishedDiffers).
     pub fn finish(&mut self, secret: &Secret, message: &[u8]) -> Result<()> {
         // SAFETY: the slices are good for their lengths and only read.
         let answer = Wiped(unsafe {

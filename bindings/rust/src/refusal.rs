@@ -30,42 +30,47 @@ impl Alert {
     }
 }
 
-/// Why a call was refused. As a number (`as u8`) it is that of `include/axle_gateway.h`.
+/// Why a call was refused. Its [`number`](Refusal::number) is that of `include/axle_gateway.h`.
 #[derive(Clone, Copy, Debug, PartialEq, Eq, Hash)]
-#[repr(u8)]
 pub enum Refusal {
     /// Malformed message.
-    Malformed = 1,
+    Malformed {
+        /// Where the message broke; a writer has none yet. See [`place`](Refusal::place).
+        place: Option<usize>,
+    },
     /// An extension type twice in a hello.
-    ExtensionTwice = 2,
+    ExtensionTwice {
+        /// Where the earliest type stands that repeats one before it; a writer has no message yet. See [`place`](Refusal::place).
+        place: Option<usize>,
+    },
     /// A version that is not accepted.
-    Version = 3,
+    Version,
     /// An extension of a ServerHello that was never offered.
-    ExtensionNotOffered = 4,
+    ExtensionNotOffered,
     /// The renegotiation indication is wrong or missing.
-    Indication = 5,
+    Indication,
     /// The rule of the extended master secret forbids it.
-    MasterSecretRule = 6,
+    MasterSecretRule,
     /// A message, or a question, out of turn.
-    OutOfTurn = 7,
+    OutOfTurn,
     /// The value of a Finished differs.
-    FinishedDiffers = 8,
+    FinishedDiffers,
     /// Renegotiation is closed, on the server's side.
-    RenegotiationClosed = 9,
+    RenegotiationClosed,
     /// A lent length outside its bounds; nothing went wrong on the wire.
-    Length = 10,
+    Length,
     /// An axle not 1 to 6, or an identifier not of 1 to 32 bytes; nothing went wrong on the wire.
-    AxleOrIdentifier = 11,
+    AxleOrIdentifier,
 }
 
 /// What a call answers that can be refused.
 pub type Result<T> = core::result::Result<T, Refusal>;
 
 impl Refusal {
-    /// Every refusal, by number.
+    /// Every refusal, by number, and without a place.
     pub const ALL: [Refusal; 11] = [
-        Refusal::Malformed,
-        Refusal::ExtensionTwice,
+        Refusal::Malformed { place: None },
+        Refusal::ExtensionTwice { place: None },
         Refusal::Version,
         Refusal::ExtensionNotOffered,
         Refusal::Indication,
@@ -80,13 +85,45 @@ impl Refusal {
     /// Its number, 1 to 11.
     #[must_use]
     pub const fn number(self) -> u8 {
-        self as u8
+        match self {
+            Refusal::Malformed { .. } => 1,
+            Refusal::ExtensionTwice { .. } => 2,
+            Refusal::Version => 3,
+            Refusal::ExtensionNotOffered => 4,
+            Refusal::Indication => 5,
+            Refusal::MasterSecretRule => 6,
+            Refusal::OutOfTurn => 7,
+            Refusal::FinishedDiffers => 8,
+            Refusal::RenegotiationClosed => 9,
+            Refusal::Length => 10,
+            Refusal::AxleOrIdentifier => 11,
+        }
     }
 
-    /// The refusal of that number: none for 0, which is done, and above 11.
+    /// The refusal of that number, without a place: none for 0, which is done, and above 11.
     #[must_use]
     pub fn of(number: u8) -> Option<Refusal> {
         Refusal::ALL.into_iter().find(|refusal| refusal.number() == number)
+    }
+
+    /// Where in the message that the call was given it broke, counted from 0 at its first byte, header included; at most the
+    /// message's length, where a field is cut off by its end. Only [`Malformed`](Refusal::Malformed) and
+    /// [`ExtensionTwice`](Refusal::ExtensionTwice) have a place, and not from a writer, which reads no message.
+    #[must_use]
+    pub const fn place(self) -> Option<usize> {
+        match self {
+            Refusal::Malformed { place } | Refusal::ExtensionTwice { place } => place,
+            _ => None,
+        }
+    }
+
+    /// The same at a place, if it is one that has a place.
+    const fn at(self, place: usize) -> Refusal {
+        match self {
+            Refusal::Malformed { .. } => Refusal::Malformed { place: Some(place) },
+            Refusal::ExtensionTwice { .. } => Refusal::ExtensionTwice { place: Some(place) },
+            other => other,
+        }
     }
 
     /// The alert to send, if there is one.
@@ -104,8 +141,8 @@ impl Refusal {
 
     const fn meaning(self) -> &'static str {
         match self {
-            Refusal::Malformed => "malformed message",
-            Refusal::ExtensionTwice => "extension type twice in a hello",
+            Refusal::Malformed { .. } => "malformed message",
+            Refusal::ExtensionTwice { .. } => "extension type twice in a hello",
             Refusal::Version => "version",
             Refusal::ExtensionNotOffered => "extension never offered",
             Refusal::Indication => "renegotiation indication wrong or missing",
@@ -119,8 +156,13 @@ impl Refusal {
     }
 }
 
-/// `Ok(value)` where the call was done.
+/// `Ok(value)` where the call was done. A message that it read has broken at a place.
 pub(crate) fn done<T>(raw: ffi::Refusal, value: T) -> Result<T> {
+    written(raw, value).map_err(|refusal| refusal.at(raw.place))
+}
+
+/// The same of a writer, which reads no message.
+pub(crate) fn written<T>(raw: ffi::Refusal, value: T) -> Result<T> {
     match raw.number {
         0 => Ok(value),
         number => Err(Refusal::of(number).expect("the library answers numbers of its table")),
@@ -129,7 +171,8 @@ pub(crate) fn done<T>(raw: ffi::Refusal, value: T) -> Result<T> {
 
 impl fmt::Display for Refusal {
     fn fmt(&self, f: &mut fmt::Formatter<'_>) -> fmt::Result {
-        write!(f, "refused with {}: {}", self.number(), self.meaning())
+        write!(f, "refused with {}: {}", self.number(), self.meaning())?;
+        self.place().map_or(Ok(()), |place| write!(f, ", at place {place}"))
     }
 }
 

@@ -1,7 +1,7 @@
 //! Writing a hello.
 
 use crate::hello::Extension;
-use crate::refusal::{done, Refusal, Result};
+use crate::refusal::{written, Refusal, Result};
 use crate::{ffi, wiped::Wiped};
 use core::fmt;
 
@@ -163,8 +163,9 @@ fn block(extensions: Option<ExtensionLists<'_>>) -> (u8, ExtensionLists<'_>) {
 ///
 /// Refused, with nothing written, by the first that applies: as [`Length`](Refusal::Length) for a field outside its bounds, or a
 /// message over [`MESSAGE_MAX`](crate::MESSAGE_MAX) bytes; as [`Malformed`](Refusal::Malformed) for a renegotiation_info or
-/// extended_master_secret of the wrong shape; as [`ExtensionTwice`](Refusal::ExtensionTwice) for a type that comes twice; as
-/// [`Version`](Refusal::Version) below 0x0303; and as [`Length`](Refusal::Length) where `out` is shorter than the message.
+/// extended_master_secret of the wrong shape; as [`ExtensionTwice`](Refusal::ExtensionTwice) for a type that comes twice, both
+/// without a place, for there is no message yet; as [`Version`](Refusal::Version) below 0x0303; and as
+/// [`Length`](Refusal::Length) where `out` is shorter than the message.
 ///
 /// ```
 /// use axle_gateway::*;
@@ -214,7 +215,7 @@ pub fn write_client_hello<'o>(fields: &ClientHelloFields<'_>, out: &'o mut [u8])
             out.len(),
         )
     };
-    done(answer.refusal, &out[..answer.length])
+    written(answer.refusal, &out[..answer.length])
 }
 
 /// Writes one whole ServerHello message, of version 0x0303; otherwise as [writing a ClientHello](write_client_hello). The reply of
@@ -258,5 +259,5 @@ pub fn write_server_hello<'o>(fields: &ServerHelloFields<'_>, out: &'o mut [u8])
             out.len(),
         )
     };
-    done(answer.refusal, &out[..answer.length])
+    written(answer.refusal, &out[..answer.length])
 }

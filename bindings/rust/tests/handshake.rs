@@ -72,8 +72,8 @@ fn the_log_takes_a_finished_that_is_equal() {
     for accepting in [false, true] {
         let mut call =
             |message: &[u8]| if accepting { log.accept(message, false) } else { log.finish(&secret, message) };
-        assert_eq!(call(&finished[..15]), Err(Refusal::Malformed));
-        assert_eq!(call(&[1, 0, 0]), Err(Refusal::Malformed));
+        assert_eq!(call(&finished[..15]), Err(Refusal::Malformed { place: Some(1) }));
+        assert_eq!(call(&[1, 0, 0]), Err(Refusal::Malformed { place: Some(3) }));
         assert_eq!(call(&[20; MESSAGE_MAX + 1]), Err(Refusal::Length));
     }
     assert_eq!(log.expected_finished(&secret), Ok(value), "refused, the log is as it was");

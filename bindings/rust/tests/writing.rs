@@ -92,9 +92,9 @@ fn refusals_in_their_order() {
     let fields = ClientHelloFields { version: 0x0302, random: &RANDOM[1..], ..client(Some(misshapen.lists())) };
     assert_eq!(number(&fields, 1), Refusal::Length);
     let fields = ClientHelloFields { random: &RANDOM, ..fields };
-    assert_eq!(number(&fields, 1), Refusal::Malformed);
+    assert_eq!(number(&fields, 1), Refusal::Malformed { place: None });
     let fields = ClientHelloFields { extensions: Some(twice.lists()), ..fields };
-    assert_eq!(number(&fields, 1), Refusal::ExtensionTwice);
+    assert_eq!(number(&fields, 1), Refusal::ExtensionTwice { place: None });
     let fields = ClientHelloFields { extensions: None, ..fields };
     assert_eq!(number(&fields, 1), Refusal::Version);
     assert_eq!(number(&ClientHelloFields { version: 0x0304, ..fields }, 1), Refusal::Length);
@@ -108,7 +108,10 @@ fn refusals_in_their_order() {
     ] {
         assert_eq!(number(&fields, 128), Refusal::Length);
     }
-    assert_eq!(write_server_hello(&server(Some(twice.lists())), &mut room), Err(Refusal::ExtensionTwice));
+    assert_eq!(
+        write_server_hello(&server(Some(twice.lists())), &mut room),
+        Err(Refusal::ExtensionTwice { place: None })
+    );
     assert_eq!(write_server_hello(&server(None), &mut room[..41]), Err(Refusal::Length));
 }
 

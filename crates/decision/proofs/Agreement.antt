@@ -97,9 +97,9 @@ module _ (c : Connection) (s : Switches) (t : Told) (ri : t .ri ≡ some (held c
 abbrev Comes : Option Outcome → Outcome → Type 0
 Comes x o = x ≡ some o
 
-decision-of : (n : ℕ) (x : Option Outcome) (o : Outcome) (flag : Bool) (size : ℕ) → n ≡ 0 → x ≡ some o → flag ≡ true → decision n x flag size ≡ decided o true size
+decision-of : (n p : ℕ) (x : Option Outcome) (o : Outcome) (flag : Bool) (size : ℕ) → n ≡ 0 → x ≡ some o → flag ≡ true → decision n p x flag size ≡ decided o true size
 unfolding decision
-decision-of n x o flag size e f g = rw (e, f, g)
+decision-of n p x o flag size e f g = rw (e, f, g)
 
 module _ (axle : ℕ) (b : Book) (c : Connection) (s : Switches) (r : Reading) (out : List ℕ) (k : Option Original) where
   -- a server that accepts is not closed
@@ -115,7 +115,7 @@ module _ (axle : ℕ) (b : Book) (c : Connection) (s : Switches) (r : Reading) (
 
   number-zero : serverDecision axle r k c s out .refusal .number ≡ 0 → serverNumber axle r k c s out ≡ 0
   unfolding serverDecision
-  number-zero e = sym (decision-number _ _ _ _) ∙ e
+  number-zero e = sym (decision-number _ _ _ _ _) ∙ e
 
 -- EMS is always used, since our hello has it
 outcome-ems : (s : Switches) (k : Option Original)
@@ -190,7 +190,7 @@ module _ (axle : ℕ) (b : Book) (c : Connection) (s s′ : Switches) (r : Readi
   server-is : (o : Outcome) → serverOutcome s session true ≡ some o
       → serverDecision axle r session c s out ≡ decided o true (length (serverReply c s session (asked r)))
   unfolding serverDecision
-  server-is o e = decision-of _ _ o _ _ zero (ap (serverOutcome s session) asks-ems ∙ e) flag
+  server-is o e = decision-of _ _ _ o _ _ zero (ap (serverOutcome s session) asks-ems ∙ e) flag
 
   server-resumes : (o : Outcome) → serverOutcome s session true ≡ some o → yes (serverDecision axle r session c s out .resumes) ≡ o .resumes
   unfolding decided
@@ -234,7 +234,7 @@ module _ (axle : ℕ) (b : Book) (c : Connection) (s s′ : Switches) (r : Readi
   agree o e f =
       let still = open-still axle b c s r out session (x .asks) (x .reads) zero in
       let n = client-zero c s′ (readServer m) (x .answer) i l o (x .answered) good-offer tells-others still (right c s′ tells tells-ri) f in
-      rw (server-is o e, decision-of _ _ o _ 0 n f (flagged c s′ tells tells-ri))
+      rw (server-is o e, decision-of _ _ _ o _ 0 n f (flagged c s′ tells tells-ri))
       (record { accepted = refl; resumes = refl; ems = refl; flag = refl; bar = refl; bars-export = refl; bars-verify-data = refl })
 
   -- the server names what was offered exactly where it resumes

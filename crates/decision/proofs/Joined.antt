@@ -1,30 +1,22 @@
 -- The reply rule of the two calls' own promises: of the bytes that the server wrote.
 -- Assumes nothing.
-use mathlib.Core.Path.{_≡_, refl, sym, _∙_, ap, subst}
+use mathlib.Core.Path.{_≡_, refl, sym, _∙_, ap}
 use mathlib.Core.Bool.{Bool, true, false}
-use mathlib.Core.List.{List, [], _∷_, _++_}
-use mathlib.Core.Logic.{_⊎_, inl, inr, ⊎-elim}
+use mathlib.Core.List.{List, [], _∷_}
 use mathlib.Core.Option.{Option, none, some}
-use Prim.Native.Nat.{ℕ, _≤_}
+use Prim.Native.Nat.{ℕ}
 use native.Mathlib.Omega.{arith}
-use lib.Dec.{leb, ltb, eqb}
+use lib.Dec.{ltb}
 use lib.ListN.{length, take, drop}
 use lib.Seq.{take-at}
-use borrow.Author.Tests.{eq-eqb, ltb-false, le-leb}
-use Rattle.seqs.specs.Pick.{pick}
+use borrow.Author.Tests.{ltb-false, le-leb}
 use Rattle.seqs.specs.Flag.{yes}
-use Rattle.seqs.specs.Cases.{by-test}
 use Rattle.refusal.specs.First.{firstOf}
-use Rattle.octets.specs.Same.{same}
-use Rattle.octets.specs.Put.{putList}
 use Rattle.sessions.specs.Book.{Book, badAxle}
-use Rattle.sessions.specs.Keeps.{Keeps}
-use Rattle.sessions.specs.declared.table.Table.{Table}
-use Rattle.hello.specs.Fields.{Hello, Reading, fields, readClient, readServer}
+use Rattle.hello.specs.Fields.{Hello, Reading, fields, readClient}
 use Rattle.hello.proofs.Learnt.{client-bounds}
-use Rattle.decision.specs.Connection.{closed, Outcome, forbidden, usesEms, decided, decision}
-use Rattle.decision.specs.Server.{Asked, Original, asked, faulty, faultOf, sessionIn, serverWrong, serverFlag, serverOutcome, serverReply, serverNumber, serverDecision, serverOutput, DecidedBy, ServerDecides}
-use Rattle.decision.specs.Client.{Lent, clientDecision}
+use Rattle.decision.specs.Connection.{closed, Outcome, forbidden, decided, decision}
+use Rattle.decision.specs.Server.{Original, asked, faulty, faultOf, faultPlace, sessionIn, serverWrong, serverFlag, serverOutcome, serverReply, serverNumber, serverDecision, serverOutput, DecidedBy}
 use Rattle.decision.specs.Agreement.{ReplyRule}
 use Rattle.decision.specs.declared.connection.Connection.{Connection}
 use Rattle.decision.specs.declared.connection.Switches.{Switches}
@@ -54,7 +46,7 @@ module _ (axle : ℕ) (r : Reading) (k : Option Original) (c : Connection) (s : 
   unfolding serverDecision decision decided
   size = rw n (go (serverOutcome s k (asked r .ems)) (tests .0))
     where
-      go : (o : Option Outcome) → forbidden o ≡ false → decision 0 o (serverFlag c (asked r)) (length reply) .«reply_length» ≡ length reply
+      go : (o : Option Outcome) → forbidden o ≡ false → decision 0 (faultPlace r) o (serverFlag c (asked r)) (length reply) .«reply_length» ≡ length reply
       go none z = let y : _≡_ {A = ℕ} 0 1 = cc in absurd (omega arith)
       go (some o) z = refl
 
@@ -67,7 +59,7 @@ module _ (axle : ℕ) (r : Reading) (k : Option Original) (c : Connection) (s : 
 number-zero : (axle : ℕ) (r : Reading) (b : Book) (c : Connection) (s : Switches) (out out′ : List ℕ) (d : Decision) → DecidedBy axle r b c s out d out′ → d .refusal .number ≡ 0
     → serverNumber axle r (sessionIn axle r b) c s out ≡ 0
 unfolding serverDecision
-number-zero axle r b c s out out′ d q e = sym (decision-number _ _ _ _) ∙ sym (ap (λ (y : Decision). y .refusal .number) (q .answer)) ∙ e
+number-zero axle r b c s out out′ d q e = sym (decision-number _ _ _ _ _) ∙ sym (ap (λ (y : Decision). y .refusal .number) (q .answer)) ∙ e
 
 pub reply-rule : ReplyRule
 reply-rule t b axle c s s′ h out out′ m i l d d′ x =

@@ -23,16 +23,16 @@ use Rattle.decision.specs.declared.connection.Switches.{Switches}
 use Rattle.decision.specs.declared.connection.Decision.{Decision}
 
 -- a number other than 0 is a refusal, whatever the outcome would have been
-pub decision-refused : (n : ℕ) (o : Option Outcome) (flag : Bool) (size : ℕ) → (n ≡ 0 → ⊥) → decision n o flag size ≡ refusedBy n
+pub decision-refused : (n p : ℕ) (o : Option Outcome) (flag : Bool) (size : ℕ) → (n ≡ 0 → ⊥) → decision n p o flag size ≡ refusedBy n p
 unfolding decision
-decision-refused n none flag size h = refl
-decision-refused n (some o) flag size h = rw (ne-eqb n 0 h)
+decision-refused n p none flag size h = refl
+decision-refused n p (some o) flag size h = rw (ne-eqb n 0 h)
 
 -- 0 with an outcome
-pub decision-done : (o : Option Outcome) (flag : Bool) (size : ℕ) → forbidden o ≡ false → decision 0 o flag size ≡ decidedIn o flag size
+pub decision-done : (p : ℕ) (o : Option Outcome) (flag : Bool) (size : ℕ) → forbidden o ≡ false → decision 0 p o flag size ≡ decidedIn o flag size
 unfolding decision
-decision-done none flag size h = let z : _≡_ {A = ℕ} 0 1 = cc in absurd (omega arith)
-decision-done (some o) flag size h = refl
+decision-done p none flag size h = let z : _≡_ {A = ℕ} 0 1 = cc in absurd (omega arith)
+decision-done p (some o) flag size h = refl
 
 module _ (c : Connection) (s : Switches) (k : Option Original) (out : List ℕ) (a : Asked) where
   -- the number where the indication is right
@@ -58,10 +58,10 @@ module _ (c : Connection) (s : Switches) (k : Option Original) (out : List ℕ) 
       (λ q. absurd (h (sym (rw (p, q) at e)))))
 
   refusal-of : (n : ℕ) {d : Decision} → plainNumber c s k out a ≡ n → (n ≡ 0 → ⊥) → d ≡ refusing (refusalOf n) → Plain c s k out a d out
-  unfolding refusedBy
+  unfolding refusedBy refusalOf
   refusal-of n e h q =
       record {
-        answer = rw e (q ∙ sym (decision-refused n _ _ _ h));
+        answer = rw e (q ∙ sym (decision-refused n 0 _ _ _ h));
         output = rw (e, ne-eqb n 0 h);
       }
 
@@ -95,7 +95,7 @@ module _ (c : Connection) (s : Switches) (k : Option Original) (out : List ℕ) 
           let l : length (serverReply c s k a) ≤ length out = rw reply at (leb-true (length b) (length out) p) in
           let e : plainNumber c s k out a ≡ 0 = past turn ∙ (rw (free, le-ltb (length out) (length (serverReply c s k a)) l)) in
           record {
-            answer = rw (e, ← f, ← g) (q ∙ sym (decision-done (serverOutcome s k (a .ems)) _ _ free));
+            answer = rw (e, ← f, ← g) (q ∙ sym (decision-done 0 (serverOutcome s k (a .ems)) _ _ free));
             output = rw (e, ← reply) written;
           })
           (λ p. let m : n ≡ 10 = number ∙ (rw p) in absurd (omega arith))

@@ -12,8 +12,8 @@ use borrow.Author.Tests.{eq-eqb, ne-eqb, eqb-true, le-leb, lt-leb, ltb-true, ltb
 use Rattle.seqs.specs.Pick.{pick}
 use Rattle.seqs.specs.Cases.{by-test}
 use Rattle.refusal.specs.First.{firstOf}
-use Rattle.refusal.specs.Table.{refusalOf}
-use Rattle.refusal.specs.Listed.{row-number}
+use Rattle.refusal.specs.Table.{refusalOf, refusalAt}
+use Rattle.refusal.specs.Listed.{number-at, row-number, anywhere}
 use Rattle.refusal.specs.declared.Refusal.{Refusal}
 use Rattle.sessions.specs.Book.{Session, Book, sought, badAxle}
 use Rattle.sessions.specs.Promises.{knownOf, Knows}
@@ -23,7 +23,7 @@ use Rattle.sessions.specs.declared.calls.Known.the-variants as known
 use Rattle.hello.specs.Fields.{Hello, Reading, fields}
 use Rattle.hello.proofs.Learnt.{Faulted}
 use Rattle.decision.specs.Connection.{Outcome, refusing, refusedBy, decided, decision}
-use Rattle.decision.specs.Server.{asked, Original, originalOf, sessionIn, serverNumber, serverDecision, serverOutput, DecidedBy, ServerDecides}
+use Rattle.decision.specs.Server.{asked, faultPlace, Original, originalOf, sessionIn, serverNumber, serverDecision, serverOutput, DecidedBy, ServerDecides}
 use Rattle.decision.specs.Steps.{plainNumber, Plain, originalIn, SessionIs}
 use Rattle.decision.specs.declared.connection.Connection.{Connection}
 use Rattle.decision.specs.declared.connection.Switches.{Switches}
@@ -72,17 +72,17 @@ module _ (t : Table) (axle : ℕ) (r : Reading) (f : Hello) (e : r ≡ fields f)
       from b x = ap originalIn x ∙ known-original (sought axle i b) ∙ sym (looked h b ∙ ap (λ (y : List ℕ). originalOf (sought axle y b)) (sym q))
 
 -- a decision bears its number
-pub decision-number : (n : ℕ) (o : Option Outcome) (flag : Bool) (size : ℕ) → decision n o flag size .refusal .number ≡ n
+pub decision-number : (n p : ℕ) (o : Option Outcome) (flag : Bool) (size : ℕ) → decision n p o flag size .refusal .number ≡ n
 unfolding decision decided refusedBy
-decision-number n none flag size = row-number n
-decision-number n (some o) flag size =
+decision-number n p none flag size = number-at n p
+decision-number n p (some o) flag size =
     by-test (eqb n 0)
-    (λ p. rw p (row-number 0 ∙ sym (eqb-true n 0 p)))
-    (λ p. rw p (row-number n))
+    (λ e. rw e (row-number 0 ∙ sym (eqb-true n 0 e)))
+    (λ e. rw e (number-at n p))
 
 module _ (t : Table) (axle : ℕ) (r : Reading) (c : Connection) (s : Switches) (out : List ℕ) where
   -- refused before the session is looked up
-  early : (n : ℕ) {d : Decision} → ((k : Option Original) → serverNumber axle r k c s out ≡ n) → (n ≡ 0 → ⊥) → d ≡ refusing (refusalOf n)
+  early : (n : ℕ) {d : Decision} → ((k : Option Original) → serverNumber axle r k c s out ≡ n) → (n ≡ 0 → ⊥) → d ≡ refusing (refusalAt n (faultPlace r))
       → ServerDecides t axle r c s out d out
   unfolding serverDecision serverOutput refusedBy
   early n {d} e h q = record { book = []; of-book = of []; refused = λ z. refl; answers = λ b k. of b }
@@ -90,17 +90,17 @@ module _ (t : Table) (axle : ℕ) (r : Reading) (c : Connection) (s : Switches) 
       of : (b : Book) → DecidedBy axle r b c s out d out
       of b =
           record {
-            answer = rw (e (sessionIn axle r b)) (q ∙ sym (decision-refused n _ _ _ h));
+            answer = rw (e (sessionIn axle r b)) (q ∙ sym (decision-refused n (faultPlace r) _ _ _ h));
             output = rw (e (sessionIn axle r b), ne-eqb n 0 h);
           }
 
   pub server-axle : {d : Decision} → badAxle axle ≡ true → d ≡ refusing (refusalOf 11) → ServerDecides t axle r c s out d out
   unfolding serverNumber firstOf
-  server-axle h q = early 11 (λ k. rw h) (λ z. omega arith) q
+  server-axle h q = early 11 (λ k. rw h) (λ z. omega arith) (q ∙ ap refusing (anywhere 11 (faultPlace r) refl))
 
   pub server-faulted : {d : Decision} {x : Refusal} → badAxle axle ≡ false → Faulted r x → d ≡ refusing x → ServerDecides t axle r c s out d out
   unfolding serverNumber firstOf
-  server-faulted h f q = early (f .number) (λ k. rw (h, f .reading)) (f .some) (q ∙ ap refusing (f .refusal))
+  server-faulted h f q = early (f .number) (λ k. rw (h, f .reading)) (f .some) (q ∙ ap refusing (f .refusal ∙ ap (refusalAt (f .number)) (sym (ap faultPlace (f .reading)))))
 
   -- on a hello that was read the number is that of the plain values
   read-number : {h : Hello} (y : Option Original) → badAxle axle ≡ false → r ≡ fields h → serverNumber axle r y c s out ≡ plainNumber c s y out (asked r)
@@ -110,7 +110,7 @@ module _ (t : Table) (axle : ℕ) (r : Reading) (c : Connection) (s : Switches) 
   plain-kept : {d : Decision} {o : List ℕ} (x : Option Original) → Plain c s x out (asked r) d o → (d .refusal .number ≡ 0 → ⊥) → o ≡ out
   plain-kept x p z =
       by-test (eqb (plainNumber c s x out (asked r)) 0)
-      (λ q. absurd (z (ap (λ (y : Decision). y .refusal .number) (p .answer) ∙ decision-number _ _ _ _ ∙ eqb-true _ 0 q)))
+      (λ q. absurd (z (ap (λ (y : Decision). y .refusal .number) (p .answer) ∙ decision-number _ _ _ _ _ ∙ eqb-true _ 0 q)))
       (λ q. p .output ∙ (rw q))
 
   pub server-judged : {d : Decision} {o : List ℕ} {h : Hello} (k : Known) → badAxle axle ≡ false → r ≡ fields h → SessionIs t axle r k
@@ -123,6 +123,6 @@ module _ (t : Table) (axle : ℕ) (r : Reading) (c : Connection) (s : Switches) 
       of b y =
           let v = subst (λ (u : Option Original). Plain c s u out (asked r) d o) y p in
           record {
-            answer = rw (read-number (sessionIn axle r b) g e) (v .answer);
+            answer = rw (read-number (sessionIn axle r b) g e, ap faultPlace e) (v .answer);
             output = rw (read-number (sessionIn axle r b) g e) (v .output);
           }

@@ -11,12 +11,14 @@ use borrow.Author.Tests.{eq-eqb, ne-eqb, lt-ltb, le-ltb}
 use Rattle.seqs.specs.Pick.{pick}
 use Rattle.seqs.specs.Cases.{by-test}
 use Rattle.refusal.specs.First.{firstOf}
-use Rattle.refusal.specs.Table.{refusalOf}
+use Rattle.refusal.specs.Table.{refusalOf, refusalAt}
+use Rattle.refusal.specs.Listed.{anywhere}
 use Rattle.octets.specs.Same.{same}
 use Rattle.refusal.specs.declared.Refusal.{Refusal}
 use Rattle.hello.specs.Fields.{Hello, Reading, fields}
 use Rattle.hello.proofs.Learnt.{Faulted}
 use Rattle.decision.specs.Connection.{later, closed, present, Outcome, forbidden, refusing, refusedBy}
+use Rattle.decision.specs.Server.{faultPlace}
 use Rattle.decision.specs.Client.{Told, told, Lent, lentOf, lentEms, badOffer, clientWrong, clientFlag, clientResumes, clientOutcome, clientNumber, clientDecision}
 use Rattle.decision.specs.Steps.{riOf, clientIndication, decidedIn, toldNumber, clientPlain}
 use Rattle.decision.specs.declared.connection.Connection.{Connection}
@@ -53,8 +55,8 @@ module _ (i : List ℕ) (t : Told) where
 
 module _ (c : Connection) (s : Switches) (i : List ℕ) (e : Bool) (t : Told) where
   refusal-of : (n : ℕ) {d : Decision} → toldNumber c s i e t ≡ n → (n ≡ 0 → ⊥) → d ≡ refusing (refusalOf n) → d ≡ clientPlain c s i e t
-  unfolding clientPlain refusedBy
-  refusal-of n p h q = rw p (q ∙ sym (decision-refused n _ _ _ h))
+  unfolding clientPlain refusedBy refusalOf
+  refusal-of n p h q = rw p (q ∙ sym (decision-refused n 0 _ _ _ h))
 
   pub told-others : {d : Decision} → t .others ≡ true → d ≡ refusing (refusalOf 4) → d ≡ clientPlain c s i e t
   unfolding toldNumber firstOf
@@ -86,11 +88,11 @@ module _ (c : Connection) (s : Switches) (i : List ℕ) (e : Bool) (t : Told) wh
 
     pub told-done : {d : Decision} {flag : Bool} → clientIndication c s (t .ri) ≡ 0 → flag ≡ clientFlag c t
         → d ≡ decidedIn (clientOutcome s i e t) flag 0 → d ≡ clientPlain c s i e t
-    unfolding clientPlain refusedBy
+    unfolding clientPlain refusedBy refusalOf
     told-done p f q =
         by-test (forbidden (clientOutcome s i e t))
         (λ x. refusal-of 6 (past p ∙ (rw x)) (λ z. omega arith) (q ∙ six (clientOutcome s i e t) _ x))
-        (λ x. rw (past p, x, ← f) (q ∙ sym (decision-done (clientOutcome s i e t) _ 0 x)))
+        (λ x. rw (past p, x, ← f) (q ∙ sym (decision-done 0 (clientOutcome s i e t) _ 0 x)))
       where
         six : (o : Option Outcome) (flag : Bool) → forbidden o ≡ true → decidedIn o flag 0 ≡ refusing (refusalOf 6)
         six none flag h = refl
@@ -107,17 +109,17 @@ flag-told c indicated t bytes e f = f ∙ (rw e (go indicated))
 
 -- the whole decision, from the reading on
 module _ (r : Reading) (i : List ℕ) (l : Option Lent) (c : Connection) (s : Switches) where
-  whole-refusal : (n : ℕ) {d : Decision} → clientNumber r i l c s ≡ n → (n ≡ 0 → ⊥) → d ≡ refusing (refusalOf n) → d ≡ clientDecision r i l c s
+  whole-refusal : (n : ℕ) {d : Decision} → clientNumber r i l c s ≡ n → (n ≡ 0 → ⊥) → d ≡ refusing (refusalAt n (faultPlace r)) → d ≡ clientDecision r i l c s
   unfolding clientDecision refusedBy
-  whole-refusal n p h q = rw p (q ∙ sym (decision-refused n _ _ _ h))
+  whole-refusal n p h q = rw p (q ∙ sym (decision-refused n (faultPlace r) _ _ _ h))
 
   pub decide-offer : {d : Decision} → badOffer i l ≡ true → d ≡ refusing (refusalOf 11) → d ≡ clientDecision r i l c s
   unfolding clientNumber firstOf
-  decide-offer h q = whole-refusal 11 (rw h) (λ z. omega arith) q
+  decide-offer h q = whole-refusal 11 (rw h) (λ z. omega arith) (q ∙ ap refusing (anywhere 11 (faultPlace r) refl))
 
   pub decide-fault : {d : Decision} {x : Refusal} → badOffer i l ≡ false → Faulted r x → d ≡ refusing x → d ≡ clientDecision r i l c s
   unfolding clientNumber firstOf
-  decide-fault h f q = whole-refusal (f .number) (rw (h, f .reading)) (f .some) (q ∙ ap refusing (f .refusal))
+  decide-fault h f q = whole-refusal (f .number) (rw (h, f .reading)) (f .some) (q ∙ ap refusing (f .refusal ∙ ap (refusalAt (f .number)) (sym (ap faultPlace (f .reading)))))
 
   pub decide-told : {d : Decision} {h : Hello} {e : Bool} → badOffer i l ≡ false → r ≡ fields h → e ≡ lentEms l → d ≡ clientPlain c s i e (told r) → d ≡ clientDecision r i l c s
   unfolding clientNumber clientDecision clientPlain toldNumber clientOutcome firstOf

@@ -4,18 +4,17 @@ use mathlib.Core.Path.{_≡_, refl, sym, _∙_, subst}
 use mathlib.Core.Bool.{Bool, true, false}
 use mathlib.Core.List.{List, [], _∷_}
 use mathlib.Core.Logic.{inl, inr}
-use mathlib.Core.Option.{Option}
 use Prim.Native.Nat.{ℕ}
 use lib.ListN.{length, take, replicate}
 use Rattle.seqs.specs.Flag.{yes}
-use Rattle.refusal.specs.First.{firstOf}
-use Rattle.refusal.specs.Table.{refusalOf}
+use Rattle.refusal.specs.First.{firstOf, firstFault}
+use Rattle.refusal.specs.Table.{refusalOf, refusalAt}
 use Rattle.octets.specs.Same.{same}
 use Rattle.message.specs.Numbers.{byteAt, pairAt, tripleAt}
-use Rattle.message.specs.Frame.{kindOf, bodyOf, overlong, misstated}
+use Rattle.message.specs.Frame.{kindOf, bodyOf, overlong, cutOff, misstated, otherKind}
 use Rattle.hello.specs.Layout.{big, field, counted, vector}
 use Rattle.hello.specs.Extensions.{Extension, shaped, extension, listOf, extensionsOf, has, twice, contentOf, indicationOf}
-use Rattle.hello.specs.Fields.{Hello, fields, opening, closing, clientLayout, serverLayout, signalIn, helloNumber, readClient, readServer}
+use Rattle.hello.specs.Fields.{Hello, fields, opening, closing, clientLayout, serverLayout, signalIn, helloFault, readClient, readServer}
 use Rattle.hello.specs.Written.{writtenList, writtenBlock, behindMethod}
 use Rattle.sessions.specs.Book as book
 use Rattle.sessions.specs.Book.{Book, empty, store}
@@ -96,7 +95,7 @@ abbrev later : List Extension
 later = replyList laterConnection true true
 
 pub witnesses : Witnesses
-unfolding firstOf refusalOf same byteAt pairAt tripleAt kindOf bodyOf overlong misstated big field counted vector shaped extension listOf extensionsOf has twice contentOf indicationOf opening closing clientLayout serverLayout signalIn helloNumber readClient readServer writtenList writtenBlock closed wrongFirst decided decision replyList replyOf offerOf offerTurned sessionIn serverWrong serverFlag resumable serverOutcome serverReply serverNumber serverDecision serverOutput book.oldest book.isOf book.isName book.isNamed book.badAxle
+unfolding firstOf firstFault refusalOf refusalAt same byteAt pairAt tripleAt kindOf bodyOf overlong cutOff misstated otherKind big field counted vector shaped extension listOf extensionsOf has twice contentOf indicationOf opening closing clientLayout serverLayout signalIn helloFault readClient readServer writtenList writtenBlock closed wrongFirst decided decision replyList replyOf offerOf offerTurned sessionIn serverWrong serverFlag resumable serverOutcome serverReply serverNumber serverDecision serverOutput book.oldest book.isOf book.isName book.isNamed book.badAxle
 witnesses =
     record {
       first-full =

@@ -12,7 +12,7 @@ use Rattle.octets.specs.Same.{same}
 use Rattle.hello.specs.Extensions.{indicationOf, emsOf, othersOf}
 use Rattle.hello.specs.Fields.{Reading, fields, fault}
 use Rattle.decision.specs.Connection.{later, closed, present, saying, wrongFirst, legacyFull, legacyResumption, Outcome, fullEms, fullLegacy, resumedEms, resumedLegacy, allowed, forbidden, decision}
-use Rattle.decision.specs.Server.{faulty, faultOf}
+use Rattle.decision.specs.Server.{faulty, faultOf, faultPlace}
 use Rattle.decision.specs.declared.connection.Connection.{Connection}
 use Rattle.decision.specs.declared.connection.Switches.{Switches}
 use Rattle.decision.specs.declared.connection.Decision.{Decision}
@@ -27,7 +27,7 @@ pub record Told : Type 0 where
 
 abbrev pub told : Reading → Told
 told (fields h) = record { identifier = h .identifier; ri = indicationOf (h .extensions); ems = emsOf (h .extensions); others = othersOf (h .extensions) }
-told (fault n) = record { identifier = []; ri = none; ems = false; others = false }
+told (fault n p) = record { identifier = []; ri = none; ems = false; others = false }
 
 -- the session that the offered identifier belongs to, as the client lends it
 pub record Lent : Type 0 where
@@ -97,4 +97,4 @@ clientNumber r i l c s =
 
 -- the client writes no reply
 unfoldable pub clientDecision : Reading → List ℕ → Option Lent → Connection → Switches → Decision
-clientDecision r i l c s = decision (clientNumber r i l c s) (clientOutcome s i (lentEms l) (told r)) (clientFlag c (told r)) 0
+clientDecision r i l c s = decision (clientNumber r i l c s) (faultPlace r) (clientOutcome s i (lentEms l) (told r)) (clientFlag c (told r)) 0

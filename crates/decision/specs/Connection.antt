@@ -8,7 +8,7 @@ use lib.Dec.{eqb}
 use lib.ListN.{replicate}
 use Rattle.seqs.specs.Pick.{pick}
 use Rattle.seqs.specs.Flag.{yes, bit}
-use Rattle.refusal.specs.Table.{refusalOf}
+use Rattle.refusal.specs.Table.{refusalOf, refusalAt}
 use Rattle.refusal.specs.declared.Refusal.{Refusal}
 use Rattle.octets.specs.Same.{same}
 use Rattle.decision.specs.declared.connection.Connection.{Connection}
@@ -90,7 +90,7 @@ usesEms (some o) = o .ems
 
 -- ---- answers
 
--- 'A refusal returns its number and alert and nothing else'
+-- 'A refusal returns its number and alert and nothing else', but for the place that order 9 puts beside them
 abbrev pub refusing : Refusal → Decision
 refusing r =
     record {
@@ -104,8 +104,9 @@ refusing r =
       «reply_length» = 0;
     }
 
-unfoldable pub refusedBy : ℕ → Decision
-refusedBy n = refusing (refusalOf n)
+-- number n; p is the place in the hello, which goes with 1 and 2 alone
+unfoldable pub refusedBy : ℕ → ℕ → Decision
+refusedBy n p = refusing (refusalAt n p)
 
 -- 'A legacy outcome bars key export. Legacy resumption also bars verify_data for other uses and, at completion, sets the
 -- renegotiation bar.' The flag is the one that completion will write.
@@ -122,7 +123,7 @@ decided o flag n =
       «reply_length» = n;
     }
 
--- an outcome or none, by the number: where that is 0 there is one
-unfoldable pub decision : ℕ → Option Outcome → Bool → ℕ → Decision
-decision n none flag size = refusedBy n
-decision n (some o) flag size = pick (eqb n 0) (decided o flag size) (refusedBy n)
+-- an outcome or none, by the number: where that is 0 there is one. p is the place of the reading's fault.
+unfoldable pub decision : ℕ → ℕ → Option Outcome → Bool → ℕ → Decision
+decision n p none flag size = refusedBy n p
+decision n p (some o) flag size = pick (eqb n 0) (decided o flag size) (refusedBy n p)

@@ -29,16 +29,23 @@ pub record Asked : Type 0 where
 
 abbrev pub asked : Reading → Asked
 asked (fields h) = record { signal = signalIn (h .suites); ri = indicationOf (h .extensions); ems = emsOf (h .extensions) }
-asked (fault n) = record { signal = false; ri = none; ems = false }
+asked (fault n p) = record { signal = false; ri = none; ems = false }
 
 -- a reading's fault: 10, 1, 2 or 3, in that order
 abbrev pub faulty : Reading → Bool
 faulty (fields h) = false
-faulty (fault n) = true
+faulty (fault n p) = true
 
 abbrev pub faultOf : Reading → ℕ
 faultOf (fields h) = 0
-faultOf (fault n) = n
+faultOf (fault n p) = n
+
+-- and its place. Order 9: 'Every call that answers 1 or 2 from a message hands it on.' A decision's 1 and 2 are its reading's, for no
+-- test of its own has these numbers, and they alone go with a place (`refusalAt`): with the reading's number the decision hands on the
+-- reading's place, and beside every other number stands 0.
+abbrev pub faultPlace : Reading → ℕ
+faultPlace (fields h) = 0
+faultPlace (fault n p) = p
 
 -- what is weighed of a session that could be resumed, RFC 7627's 'original session': was its master secret made with EMS?
 pub record Original : Type 0 where
@@ -51,7 +58,7 @@ originalOf (some s) = some (record { ems = s .ems })
 -- 'The hello's identifier, if not empty, is looked up for its axle': what is weighed of the session found, or none
 unfoldable pub sessionIn : ℕ → Reading → Book → Option Original
 sessionIn axle (fields h) b = pick (eqb (length (h .identifier)) 0) none (originalOf (sought axle (h .identifier) b))
-sessionIn axle (fault n) b = none
+sessionIn axle (fault n p) b = none
 
 -- 5. First handshake: as of either side, where the signal stands for an empty RI. Later: 'the signal present is 5, RI missing
 -- is 5, RI other than the saved client verify_data is 5'
@@ -95,7 +102,7 @@ serverNumber axle r k c s out =
 
 unfoldable pub serverDecision : ℕ → Reading → Option Original → Connection → Switches → List ℕ → Decision
 serverDecision axle r k c s out =
-    decision (serverNumber axle r k c s out) (serverOutcome s k (asked r .ems)) (serverFlag c (asked r)) (length (serverReply c s k (asked r)))
+    decision (serverNumber axle r k c s out) (faultPlace r) (serverOutcome s k (asked r .ems)) (serverFlag c (asked r)) (length (serverReply c s k (asked r)))
 
 -- 'Output beyond the reply is untouched.'
 unfoldable pub serverOutput : ℕ → Reading → Option Original → Connection → Switches → List ℕ → List ℕ

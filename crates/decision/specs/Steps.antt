@@ -1,11 +1,11 @@
 -- What the helpers of the decisions answer, each on plain values.
 -- Assumes nothing.
 use mathlib.Core.Path.{_≡_}
-use mathlib.Core.Bool.{Bool, true, false, not, _||_}
+use mathlib.Core.Bool.{Bool, true, false}
 use mathlib.Core.List.{List, [], _∷_, _++_}
 use mathlib.Core.Option.{Option, none, some}
 use Prim.Native.Nat.{ℕ, _≤_}
-use lib.Dec.{eqb, ltb}
+use lib.Dec.{eqb}
 use lib.ListN.{length, take}
 use Rattle.seqs.specs.Pick.{pick}
 use Rattle.octets.specs.Put.{putList}
@@ -62,9 +62,9 @@ outcomeIn FullLegacy = some fullLegacy
 outcomeIn ResumedEms = some resumedEms
 outcomeIn ResumedLegacy = some resumedLegacy
 
--- an outcome, or 6
+-- an outcome, or 6, which goes with no place
 abbrev pub decidedIn : Option Outcome → Bool → ℕ → Decision
-decidedIn none flag n = refusedBy 6
+decidedIn none flag n = refusedBy 6 0
 decidedIn (some o) flag n = decided o flag n
 
 -- what a ClientHello asks, from plain values
@@ -75,9 +75,9 @@ askedOf signal ri ems = record { signal = signal; ri = ri; ems = ems }
 unfoldable pub plainNumber : Connection → Switches → Option Original → List ℕ → Asked → ℕ
 plainNumber c s k out a = firstOf (serverTests c s k out a)
 
--- its answer, and what the lent output then holds
+-- its answer, and what the lent output then holds; a hello that was read has no place of a fault
 pub record Plain (c : Connection) (s : Switches) (k : Option Original) (out : List ℕ) (a : Asked) (r : Decision) (out′ : List ℕ) : Type 0 where
-  pub answer : r ≡ decision (plainNumber c s k out a) (serverOutcome s k (a .ems)) (serverFlag c a) (length (serverReply c s k a))
+  pub answer : r ≡ decision (plainNumber c s k out a) 0 (serverOutcome s k (a .ems)) (serverFlag c a) (length (serverReply c s k a))
   pub output : out′ ≡ pick (eqb (plainNumber c s k out a) 0) (putList out (serverReply c s k a)) out
 
 -- a hello that the reader read from m
@@ -95,7 +95,7 @@ unfoldable pub toldNumber : Connection → Switches → List ℕ → Bool → To
 toldNumber c s i e t = firstOf (clientTests c s i e t)
 
 unfoldable pub clientPlain : Connection → Switches → List ℕ → Bool → Told → Decision
-clientPlain c s i e t = decision (toldNumber c s i e t) (clientOutcome s i e t) (clientFlag c t) 0
+clientPlain c s i e t = decision (toldNumber c s i e t) 0 (clientOutcome s i e t) (clientFlag c t) 0
 
 -- what is weighed of a session, as the table knows it
 abbrev pub originalIn : Known → Option Original

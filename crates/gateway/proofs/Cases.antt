@@ -6,14 +6,14 @@ use mathlib.Core.List.{List, [], _∷_}
 use Prim.Native.Nat.{ℕ}
 use lib.ListN.{length}
 use Rattle.seqs.specs.Pick.{pick}
-use Rattle.refusal.specs.First.{firstOf}
-use Rattle.refusal.specs.Table.{refusalOf}
+use Rattle.refusal.specs.First.{firstOf, firstFault}
+use Rattle.refusal.specs.Table.{refusalOf, refusalAt}
 use Rattle.octets.specs.Same.{same}
 use Rattle.message.specs.Numbers.{byteAt, pairAt, tripleAt}
-use Rattle.message.specs.Frame.{kindOf, bodyOf, overlong, misstated}
+use Rattle.message.specs.Frame.{kindOf, bodyOf, overlong, cutOff, misstated, otherKind}
 use Rattle.hello.specs.Layout.{big, field, counted, vector}
 use Rattle.hello.specs.Extensions.{shaped, extension, listOf, extensionsOf, has, twice, contentOf, indicationOf}
-use Rattle.hello.specs.Fields.{opening, closing, clientLayout, serverLayout, signalIn, helloNumber, readClient, readServer}
+use Rattle.hello.specs.Fields.{opening, closing, clientLayout, serverLayout, signalIn, helloFault, readClient, readServer}
 use Rattle.hello.specs.Written.{writtenList, writtenBlock}
 use Rattle.decision.specs.Connection.{closed, wrongFirst, decided, decision}
 use Rattle.decision.specs.Reply.{replyList, replyOf}
@@ -26,7 +26,7 @@ use Rattle.sessions.specs.Book as book
 use Rattle.gateway.specs.Cases.{SmallestHellos, Cases, message, greeted, numbersFrom, heldBy}
 
 smallest-hellos : SmallestHellos
-unfolding firstOf byteAt pairAt tripleAt kindOf bodyOf overlong misstated big field counted vector opening closing clientLayout serverLayout twice helloNumber readClient readServer
+unfolding firstFault byteAt pairAt tripleAt kindOf bodyOf overlong cutOff misstated otherKind big field counted vector opening closing clientLayout serverLayout twice helloFault readClient readServer
 smallest-hellos = record { client-size = refl; client = refl; client-less = refl; server-size = refl; server = refl; server-less = refl }
 
 by-value : (b : Bool) → firstOf ((8, not b) ∷ []) ≡ pick b 0 8
@@ -35,12 +35,12 @@ by-value true = refl
 by-value false = refl
 
 fed-finished : (told resumes : Bool) (value : List ℕ) → length value ≡ 12 → acceptNumber (greeted told) (message 20 value) resumes ≡ 7
-unfolding firstOf byteAt pairAt tripleAt kindOf bodyOf overlong misstated turns isDue look tells placeOf wrongBody misshapen outOfTurn isFinished acceptNumber afterAccept
+unfolding firstOf byteAt pairAt tripleAt kindOf bodyOf overlong cutOff misstated turns isDue look tells placeOf wrongBody misshapen outOfTurn isFinished acceptNumber afterAccept
 fed-finished true resumes value e = rw e
 fed-finished false resumes value e = rw e
 
 pub cases : Cases
-unfolding firstOf refusalOf same byteAt pairAt tripleAt kindOf bodyOf overlong misstated big field counted vector shaped extension listOf extensionsOf has twice contentOf indicationOf opening closing clientLayout signalIn helloNumber readClient writtenList writtenBlock closed wrongFirst decided decision replyList replyOf serverWrong serverFlag resumable serverOutcome serverReply serverNumber serverDecision turns isDue look finishedDue tells placeOf hashed wrongBody misshapen outOfTurn isFinished acceptNumber afterAccept expectedNumber finishNumber book.many book.oldest book.strike book.isOf book.isName book.isNamed book.fuller book.fullest book.struck book.written book.badAxle book.badName book.badSecret book.storeNumber book.after book.bookFrom numbersFrom heldBy
+unfolding firstOf firstFault refusalOf refusalAt same byteAt pairAt tripleAt kindOf bodyOf overlong cutOff misstated otherKind big field counted vector shaped extension listOf extensionsOf has twice contentOf indicationOf opening closing clientLayout signalIn helloFault readClient writtenList writtenBlock closed wrongFirst decided decision replyList replyOf serverWrong serverFlag resumable serverOutcome serverReply serverNumber serverDecision turns isDue look finishedDue tells placeOf hashed wrongBody misshapen outOfTurn isFinished acceptNumber afterAccept expectedNumber finishNumber book.many book.oldest book.strike book.isOf book.isName book.isNamed book.fuller book.fullest book.struck book.written book.badAxle book.badName book.badSecret book.storeNumber book.after book.bookFrom numbersFrom heldBy
 cases =
     record {
       empty-ri = refl;

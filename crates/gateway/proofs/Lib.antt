@@ -1,4 +1,5 @@
 pub mod Readings
 pub mod Completing
 pub mod Cases
+pub mod Places
 pub mod Rewriting

@@ -1,9 +1,10 @@
 -- What specs/Readings.antt says the answers of the hello readers tell.
 -- Assumes nothing.
-use mathlib.Core.Path.{_≡_, refl, sym, _∙_, ap}
+use mathlib.Core.Path.{_≡_, refl, sym, _∙_, ap₂}
 use native.Mathlib.Omega.{arith}
-use Rattle.refusal.specs.Table.{refusalOf}
-use Rattle.refusal.specs.Listed.{numbered, listed}
+use Rattle.seqs.specs.Cases.{by-test}
+use Rattle.refusal.specs.Table.{placed, refusalOf}
+use Rattle.refusal.specs.Listed.{numbered, listed, numbered-at, placed-at, listed-at}
 use Rattle.refusal.specs.declared.Refusal.{Refusal}
 use Rattle.hello.specs.Fields.{Reading, fault, readClient, readServer}
 use Rattle.hello.specs.Places.{clientAnswer, serverAnswer}
@@ -23,11 +24,13 @@ module _ {Hello : Type 0} (reading : Reading) (Learnt : Hello → Type 0) (nothi
 
   tells-fault : Faulted reading x → hello ≡ nothing → Tells reading Learnt nothing x hello
   tells-fault f e =
-      let n = numbered (f .number) x (f .refusal) in
+      let n = numbered-at (f .number) (f .place) x (f .refusal) in
+      let p = placed-at (f .number) (f .place) x (f .refusal) in
+      let q : x .place ≡ f .place = by-test (placed (f .number)) (λ t. p ∙ (rw t)) (λ t. p ∙ (rw (t, f .bare t))) in
       record {
         read = λ z. absurd (f .some (sym n ∙ z));
-        refused = λ z. (f .reading ∙ ap fault (sym n), e);
-        listed = listed (f .number) x (f .refusal) (f .within);
+        refused = λ z. (f .reading ∙ ap₂ fault (sym n) (sym q), e);
+        listed = listed-at (f .number) (f .place) x (f .refusal) (f .within);
       }
 
 pub client-answer-tells : ClientAnswerTells

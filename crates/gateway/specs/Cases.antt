@@ -9,7 +9,7 @@ use Prim.Native.Nat.{ℕ, zero, suc, _+_}
 use lib.ListN.{length, take, replicate}
 use Rattle.seqs.specs.Pick.{pick}
 use Rattle.octets.specs.Same.{same}
-use Rattle.hello.specs.Layout.{Parse}
+use Rattle.hello.specs.Layout.{Parse, Left}
 use Rattle.hello.specs.Layout.Parse.{malformed, parsed}
 use Rattle.hello.specs.Extensions.{Extension, extensionsOf, indicationOf, emsOf}
 use Rattle.hello.specs.Fields.{Hello, fields, fault, readClient, readServer}
@@ -28,8 +28,12 @@ use Rattle.log.specs.Finish.{expectedValue, expectedNumber, finishNumber}
 
 -- what a list of extensions says, where it is one
 abbrev pub inList : {A : Type 0} → (List Extension → A) → Parse (List Extension) → Parse A
-inList f malformed = malformed
+inList f (malformed p) = malformed p
 inList f (parsed es) = parsed (f es)
+
+-- a list of extensions by itself
+abbrev pub alone : List ℕ → Left
+alone l = record { at = 0; bytes = l }
 
 -- a handshake message
 abbrev pub message : ℕ → List ℕ → List ℕ
@@ -54,15 +58,16 @@ smallest =
       extensions = [];
     }
 
--- 'Smallest ClientHello message is 45 bytes, smallest ServerHello 42; a byte less is 1.' Not marked P; that no shorter message reads
+-- 'Smallest ClientHello message is 45 bytes, smallest ServerHello 42; a byte less is 1': there the methods' length claims more than is left,
+-- and here the method is cut off. Not marked P; that no shorter message reads
 -- is said by `ClientBounds` and `ServerBounds` of every message.
 pub record SmallestHellos : Type 0 where
   pub client-size : length (message 1 clientBody) ≡ 45
   pub client : readClient (message 1 clientBody) ≡ fields smallest
-  pub client-less : readClient (message 1 (take 40 clientBody)) ≡ fault 1
+  pub client-less : readClient (message 1 (take 40 clientBody)) ≡ fault 1 43
   pub server-size : length (message 2 serverBody) ≡ 42
   pub server : readServer (message 2 serverBody) ≡ fields smallest
-  pub server-less : readServer (message 2 (take 37 serverBody)) ≡ fault 1
+  pub server-less : readServer (message 2 (take 37 serverBody)) ≡ fault 1 41
 
 -- ---- the server's decision
 
@@ -122,11 +127,11 @@ crowded = stores 1 0 8 ++ stores 2 10 8 ++ stores 3 20 8 ++ stores 4 30 8 ++ sto
 
 pub record Cases : Type 0 where
   -- 'ff 01 00 01 00 is an empty RI.'
-  pub empty-ri : inList indicationOf (extensionsOf (0xff ∷ 0x01 ∷ 0x00 ∷ 0x01 ∷ 0x00 ∷ [])) ≡ parsed (some [])
+  pub empty-ri : inList indicationOf (extensionsOf (alone (0xff ∷ 0x01 ∷ 0x00 ∷ 0x01 ∷ 0x00 ∷ []))) ≡ parsed (some [])
   -- '00 17 00 00 is EMS.'
-  pub ems : inList emsOf (extensionsOf (0x00 ∷ 0x17 ∷ 0x00 ∷ 0x00 ∷ [])) ≡ parsed true
+  pub ems : inList emsOf (extensionsOf (alone (0x00 ∷ 0x17 ∷ 0x00 ∷ 0x00 ∷ []))) ≡ parsed true
   -- '00 17 00 01 00 is malformed.'
-  pub ems-with-data : extensionsOf (0x00 ∷ 0x17 ∷ 0x00 ∷ 0x01 ∷ 0x00 ∷ []) ≡ malformed
+  pub ems-with-data : extensionsOf (alone (0x00 ∷ 0x17 ∷ 0x00 ∷ 0x01 ∷ 0x00 ∷ [])) ≡ malformed 4
   pub smallest-hellos : SmallestHellos
   -- 'session with EMS, hello without: 6.' With RI whatever the switches are; without, where the indication is not required.
   pub ems-lost : (s : Switches) → serverNumber 1 (readClient riHello) (some (record { ems = true })) (connection 0 0) s room ≡ 6

@@ -1,5 +1,5 @@
--- The readers' answers as they cross the C face: an enum's number and values, set out for each of its cases. A refusal is its number and
--- alert 'and nothing else': every field beside it is zero.
+-- The readers' answers as they cross the C face: an enum's number and values, set out for each of its cases. A refusal is its number,
+-- alert and place 'and nothing else': every field beside it is zero.
 -- Assumes nothing.
 use Rattle.refusal.specs.Table.{refusalOf}
 use Rattle.hello.specs.Places.{part}

@@ -2,4 +2,5 @@ pub mod Hellos
 pub mod Readings
 pub mod Completion
 pub mod Cases
+pub mod Places
 pub mod Rewriting

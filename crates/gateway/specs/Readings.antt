@@ -18,9 +18,9 @@ pub record Tells {Hello : Type 0} (reading : Reading) (Learnt : Hello → Type 0
   -- number 0: every place of the hello is within the message and holds the bytes of the reading's field, every flag says what the
   -- reading says, and the fields are within document 01's bounds
   pub read : refusal .number ≡ 0 → Learnt hello
-  -- any other number is that of the reading's fault, and the hello is zeros
-  pub refused : (refusal .number ≡ 0 → ⊥) → (reading ≡ fault (refusal .number)) × (hello ≡ nothing)
-  -- the number is one of the table, with its alert
+  -- any other number is that of the reading's fault, its place is the fault's, and the hello is zeros
+  pub refused : (refusal .number ≡ 0 → ⊥) → (reading ≡ fault (refusal .number) (refusal .place)) × (hello ≡ nothing)
+  -- the number is one of the table, with its alert, and a place goes with 1 and 2 alone
   pub listed : Listed refusal
 
 -- of `axle_read_client_hello`

@@ -1,50 +1,57 @@
--- The readings' numbers in their order: each way out of a reader is the first test that holds. It is said once for both readers, over
+-- The readings' faults in their order: each way out of a reader is the first test that holds. It is said once for both readers, over
 -- what differs between them.
 -- Assumes nothing.
-use mathlib.Core.Path.{_≡_, refl, sym, _∙_, ap}
-use mathlib.Core.Bool.{Bool, true, false}
+use mathlib.Core.Path.{_≡_, refl, sym, _∙_, ap, ap₂}
+use mathlib.Core.Bool.{Bool, true, false, not}
 use mathlib.Core.List.{List}
-use Prim.Native.Nat.{ℕ, suc}
+use Prim.Native.Nat.{ℕ, _+_, _≤_, _<_}
+use native.Mathlib.Omega.{arith}
 use lib.Dec.{eqb}
-use lib.ListN.{drop}
+use lib.ListN.{length}
 use borrow.Author.Tests.{eq-eqb, ne-eqb}
-use Rattle.seqs.specs.Cases.{by-test}
-use Rattle.refusal.specs.First.{firstOf}
-use Rattle.refusal.specs.Table.{refusalOf}
+use Rattle.refusal.specs.First.{Fault, firstFault}
+use Rattle.refusal.specs.Table.{refusalOf, refusalAt}
 use Rattle.refusal.specs.declared.Refusal.{Refusal}
-use Rattle.message.specs.Frame.{framed, frameNumber, overlong, misstated, kindOf, bodyOf, refusalIn}
+use Rattle.refusal.proofs.First.{fault-front}
+use Rattle.message.specs.Frame.{framedAs, headerTests, overlong, misstated, otherKind, refusalIn}
 use Rattle.message.specs.declared.header.Header.{Header}
 use Rattle.message.specs.declared.header.Framed.{Framed}
 use Rattle.message.specs.declared.header.Framed.the-variants as framed
-use Rattle.message.proofs.Frames.{whole-learnt, refused-learnt}
+use Rattle.message.proofs.Frames.{as-whole, as-refused}
 use Rattle.hello.specs.Layout.{Parse, malformed, parsed}
-use Rattle.hello.specs.Extensions.{Extension, twice}
-use Rattle.hello.specs.Fields.{Hello, Reading, fields, fault, clientLayout, serverLayout, wrongClientVersion, wrongServerVersion, helloNumber, readingOf, readClient, readServer}
+use Rattle.hello.specs.Extensions.{Extension, twice, repeatAt}
+use Rattle.hello.specs.Fields.{Hello, listPlace, identifierAt, methodsAt, Form, clientForm, serverForm, laidOut, Reading, fields, fault, helloFault, readingOf, readAs, readClient, readServer}
 use Rattle.hello.specs.Places.{clientPlaces, serverPlaces, clientAnswer, serverAnswer}
+use Rattle.hello.specs.Cuts.{Broken}
 use Rattle.hello.specs.declared.client.ClientHello.{ClientHello}
 use Rattle.hello.specs.declared.client.ClientRead.{ClientRead}
 use Rattle.hello.specs.declared.client.ClientRead.the-variants as client
 use Rattle.hello.specs.declared.server.ServerHello.{ServerHello}
 use Rattle.hello.specs.declared.server.ServerRead.{ServerRead}
 use Rattle.hello.specs.declared.server.ServerRead.the-variants as server
+use Rattle.hello.proofs.Repeats.{repeat-twice}
 
--- what differs: the struct of the fields, the enum that is answered, and the definitions
+-- what differs: the form that is asked for, the struct of the fields and the enum that is answered
 pub record Reader : Type 1 where
   pub Fields : Type 0
   pub Answer : Type 0
-  pub kind : ℕ
-  pub layout : List ℕ → Parse Hello
-  pub wrong : ℕ → Bool
+  pub form : Form
   pub places : Hello → Fields
   pub version : Fields → ℕ
   pub read : Fields → Answer
   pub refused : Refusal → Answer
   pub reading : List ℕ → Reading
   pub answer : Reading → Answer
-  pub reads : (m : List ℕ) → readingOf (helloNumber kind layout wrong m) (layout (bodyOf m)) ≡ reading m
+  pub reads : (m : List ℕ) → readAs form m ≡ reading m
   pub placed : (f : Hello) → version (places f) ≡ f .version
   pub on-fields : (f : Hello) → read (places f) ≡ answer (fields f)
-  pub on-fault : (n : ℕ) → refused (refusalOf n) ≡ answer (fault n)
+  pub on-fault : (n p : ℕ) → refused (refusalAt n p) ≡ answer (fault n p)
+  -- nothing stands at place 0 but the header
+  pub front : (f : Hello) → 0 < form .list (form .start) f
+
+pub list-front : (b : Bool) (at : ℕ) → 0 < at → 0 < listPlace b at
+list-front true at h = omega arith
+list-front false at h = h
 
 unfoldable pub clientReader : Reader
 unfolding readClient clientPlaces clientAnswer
@@ -52,10 +59,8 @@ clientReader =
     record {
       Fields = ClientHello;
       Answer = ClientRead;
-      kind = 1;
-      layout = clientLayout;
-      wrong = wrongClientVersion;
-      places = clientPlaces;
+      form = clientForm;
+      places = clientPlaces (clientForm .start);
       version = λ h. h .version;
       read = client.Read;
       refused = client.Refused;
@@ -64,7 +69,8 @@ clientReader =
       reads = λ m. refl;
       placed = λ f. refl;
       on-fields = λ f. refl;
-      on-fault = λ n. refl;
+      on-fault = λ n p. refl;
+      front = λ f. list-front (f .block) (methodsAt 4 f + length (f .methods)) (omega arith);
     }
 
 unfoldable pub serverReader : Reader
@@ -73,10 +79,8 @@ serverReader =
     record {
       Fields = ServerHello;
       Answer = ServerRead;
-      kind = 2;
-      layout = serverLayout;
-      wrong = wrongServerVersion;
-      places = serverPlaces;
+      form = serverForm;
+      places = serverPlaces (serverForm .start);
       version = λ h. h .version;
       read = server.Read;
       refused = server.Refused;
@@ -85,75 +89,75 @@ serverReader =
       reads = λ m. refl;
       placed = λ f. refl;
       on-fields = λ f. refl;
-      on-fault = λ n. refl;
+      on-fault = λ n p. refl;
+      front = λ f. list-front (f .block) (identifierAt 4 + length (f .identifier) + 3) (omega arith);
     }
 
-fault-of : (n : ℕ) (p : Parse Hello) → readingOf (suc n) p ≡ fault (suc n)
-fault-of n malformed = refl
-fault-of n (parsed f) = refl
+fault-of : (e : Fault) (p : Parse Hello) → (e .number ≡ 0 → ⊥) → readingOf e p ≡ fault (e .number) (e .place)
+fault-of e (malformed q) z = refl
+fault-of e (parsed f) z = rw (ne-eqb (e .number) 0 z)
 
 module _ (R : Reader) (m : List ℕ) where
   abbrev Refuses : Refusal → Type 0
   Refuses x = R .refused x ≡ R .answer (R .reading m)
 
-  refuses : (n : ℕ) {x : Refusal} → helloNumber (R .kind) (R .layout) (R .wrong) m ≡ suc n → x ≡ refusalOf (suc n) → Refuses x
-  refuses n e q =
-      ap (R .refused) q ∙ R .on-fault (suc n)
-      ∙ ap (R .answer) (sym (fault-of n (R .layout (bodyOf m))) ∙ ap (λ (k : ℕ). readingOf k (R .layout (bodyOf m))) (sym e) ∙ R .reads m)
+  refuses : (e : Fault) {x : Refusal} → helloFault (R .form) m ≡ e → (e .number ≡ 0 → ⊥) → x ≡ refusalAt (e .number) (e .place) → Refuses x
+  refuses e h z q =
+      ap (R .refused) q ∙ R .on-fault (e .number) (e .place)
+      ∙ ap (R .answer) (sym (fault-of e (laidOut (R .form) m) z) ∙ ap (λ (y : Fault). readingOf y (laidOut (R .form) m)) (sym h) ∙ R .reads m)
 
-  -- the header was not read
-  pub out-frame : {f : Framed} {r x : Refusal} → f ≡ framed m → f ≡ framed.Refused r → x ≡ refusalIn f → Refuses x
-  unfolding helloNumber firstOf frameNumber refusalIn
+  abbrev at : ℕ → ℕ → Fault
+  at n p = record { number = n; place = p }
+
+  -- the header was not read, or the message is of another type
+  pub out-frame : {f : Framed} {r x : Refusal} → f ≡ framedAs (R .form .kind) m → f ≡ framed.Refused r → x ≡ refusalIn f → Refuses x
+  unfolding helloFault refusalIn
   out-frame {r = r} e g q =
-      let l = refused-learnt m r (sym e ∙ g) in
-      let y = q ∙ ap refusalIn g in
-      by-test (overlong m)
-      (λ p. refuses 9 (rw p) (y ∙ (rw p at (l .0))))
-      (λ p.
-      by-test (misstated m)
-      (λ s. refuses 0 (rw (p, s)) (y ∙ (rw (p, s) at (l .0))))
-      (λ s. absurd (l .1 (rw (p, s)))))
+      let l = as-refused m (R .form .kind) r (sym e ∙ g) in
+      refuses (firstFault (headerTests (R .form .kind) m)) (fault-front (headerTests (R .form .kind) m) _ (l .1)) (l .1) (q ∙ ap refusalIn g ∙ l .0)
 
-  -- it was, and the message is of another type
-  pub out-kind : {f : Framed} {h : Header} {x : Refusal} → f ≡ framed m → f ≡ framed.Whole h → (h .kind ≡ R .kind → ⊥) → x ≡ refusalOf 1 → Refuses x
-  unfolding helloNumber firstOf
-  out-kind {h = h} e g d q =
-      let l = whole-learnt m h (sym e ∙ g) in
-      refuses 0 (rw (l .short, l .stated, ne-eqb (kindOf m) (R .kind) (λ z. d (l .kind ∙ z)))) q
-
-  -- or of this one
+  -- it was, and it is of this one
   pub record Typed : Type 0 where
     pub short : overlong m ≡ false
     pub stated : misstated m ≡ false
-    pub kind : eqb (kindOf m) (R .kind) ≡ true
+    pub kind : otherKind (R .form .kind) m ≡ false
+    pub shortest : 4 ≤ length m
 
-  pub typed : {f : Framed} {h : Header} → f ≡ framed m → f ≡ framed.Whole h → h .kind ≡ R .kind → Typed
-  typed {h = h} e g k =
-      let l = whole-learnt m h (sym e ∙ g) in
-      record { short = l .short; stated = l .stated; kind = eq-eqb (kindOf m) (R .kind) (sym (l .kind) ∙ k) }
+  pub typed : {f : Framed} {h : Header} → f ≡ framedAs (R .form .kind) m → f ≡ framed.Whole h → Typed
+  typed {h = h} e g =
+      let l = as-whole m (R .form .kind) h (sym e ∙ g) in
+      record { short = l .1 .short; stated = l .1 .stated; kind = l .0; shortest = l .1 .shortest }
 
-  pub out-malformed : {x : Refusal} → Typed → R .layout (drop 4 m) ≡ malformed → x ≡ refusalOf 1 → Refuses x
-  unfolding helloNumber firstOf bodyOf
-  out-malformed t l q = refuses 0 (rw (t .short, t .stated, t .kind, l)) q
+  pub out-malformed : {x : Refusal} → Typed → Broken (laidOut (R .form) m) x → Refuses x
+  unfolding helloFault firstFault
+  out-malformed t b = refuses (at 1 (b .0)) (rw (t .short, t .stated, t .kind, b .1)) (λ z. omega arith) (b .2)
 
-  -- it was laid out, with these fields; b is whether a type stands twice in the list of its extensions
-  module _ (t : Typed) {h : R .Fields} {f : Hello} {b : Bool} {es : List Extension} (l : R .layout (drop 4 m) ≡ parsed f) (p : h ≡ R .places f) (s : es ≡ f .extensions) (w : b ≡ twice es) where
-    tested : b ≡ twice (f .extensions)
-    tested = w ∙ ap twice s
+  -- it was laid out, with these fields; r is what was found of a repeat in the list of its extensions, from place i on
+  module _ (t : Typed) {h : R .Fields} {f : Hello} {i r : ℕ} {es : List Extension} (l : laidOut (R .form) m ≡ parsed f) (p : h ≡ R .places f) (s : es ≡ f .extensions) (place : i ≡ R .form .list (R .form .start) f) (w : r ≡ repeatAt i es) where
+    tested : twice (f .extensions) ≡ not (eqb r 0)
+    tested = ap twice (sym s) ∙ sym (repeat-twice i es (rw place (R .front f))) ∙ ap (λ (k : ℕ). not (eqb k 0)) (sym w)
 
-    judged : R .wrong (R .version h) ≡ R .wrong (f .version)
-    judged = ap (R .wrong) (ap (R .version) p ∙ R .placed f)
+    found : r ≡ repeatAt (R .form .list (R .form .start) f) (f .extensions)
+    found = w ∙ ap₂ repeatAt place s
 
-    pub out-twice : {x : Refusal} → b ≡ true → x ≡ refusalOf 2 → Refuses x
-    unfolding helloNumber firstOf bodyOf
-    out-twice y q = refuses 1 (rw (t .short, t .stated, t .kind, l, sym tested ∙ y)) q
+    judged : R .form .wrong (R .version h) ≡ R .form .wrong (f .version)
+    judged = ap (R .form .wrong) (ap (R .version) p ∙ R .placed f)
 
-    pub out-version : {x : Refusal} → b ≡ false → R .wrong (R .version h) ≡ true → x ≡ refusalOf 3 → Refuses x
-    unfolding helloNumber firstOf bodyOf
-    out-version y v q = refuses 2 (rw (t .short, t .stated, t .kind, l, sym tested ∙ y, sym judged ∙ v)) q
+    pub out-twice : {x : Refusal} → (r ≡ 0 → ⊥) → x ≡ refusalAt 2 r → Refuses x
+    unfolding helloFault firstFault
+    out-twice y q =
+        let d : twice (f .extensions) ≡ true = tested ∙ ap not (ne-eqb r 0 y) in
+        refuses (at 2 r) (rw (t .short, t .stated, t .kind, l, d, found)) (λ z. omega arith) q
 
-    pub out-fields : b ≡ false → R .wrong (R .version h) ≡ false → R .read h ≡ R .answer (R .reading m)
-    unfolding helloNumber firstOf bodyOf
+    once : r ≡ 0 → twice (f .extensions) ≡ false
+    once y = tested ∙ ap not (eq-eqb r 0 y)
+
+    pub out-version : {x : Refusal} → r ≡ 0 → R .form .wrong (R .version h) ≡ true → x ≡ refusalOf 3 → Refuses x
+    unfolding helloFault firstFault refusalOf
+    out-version y v q = refuses (at 3 0) (rw (t .short, t .stated, t .kind, l, once y, sym judged ∙ v)) (λ z. omega arith) q
+
+    pub out-fields : r ≡ 0 → R .form .wrong (R .version h) ≡ false → R .read h ≡ R .answer (R .reading m)
+    unfolding helloFault firstFault
     out-fields y v =
         ap (R .read) p ∙ R .on-fields f
-        ∙ ap (R .answer) (sym (rw (t .short, t .stated, t .kind, l, sym tested ∙ y, sym judged ∙ v)) ∙ R .reads m)
+        ∙ ap (R .answer) (sym (rw (t .short, t .stated, t .kind, l, once y, sym judged ∙ v)) ∙ R .reads m)

@@ -6,20 +6,20 @@ use mathlib.Core.List.{List, [], _∷_}
 use Prim.Native.Nat.{ℕ, zero, suc, _+_, _-_, _≤_, _<_}
 use native.Mathlib.Omega.{arith}
 use lib.Dec.{leb, eqb}
-use lib.ListN.{length, drop, length-drop, drop-of-length-le}
-use lib.Seq.{take-all}
-use borrow.Author.Tests.{ne-eqb, eqb-false, leb-true, leb-false}
+use lib.ListN.{length, take, drop, length-drop, drop-of-length-le}
+use lib.Seq.{drop-drop}
+use borrow.Author.Tests.{eq-eqb, ne-eqb, eqb-false, leb-true, leb-false}
 use Rattle.seqs.specs.Pick.{pick}
 use Rattle.seqs.specs.Cases.{by-test}
 use Rattle.seqs.specs.Flag.{bit}
 use Rattle.message.specs.Numbers.{pairAt}
-use Rattle.hello.specs.Layout.{Parse, malformed, parsed, counted}
+use Rattle.hello.specs.Layout.{Parse, malformed, parsed, from, big}
 use Rattle.hello.specs.Extensions.{Extension, riKind, emsKind, has, othersOf, extensionsOf}
 use Rattle.hello.specs.Fields.{Hello, isMalformed, listed, closing}
 use Rattle.hello.specs.Places.{part, partOf, bytesPart, sizeOf, extensionsAt}
 use Rattle.hello.specs.declared.parts.Part.{Part}
 use Rattle.hello.specs.Cuts.{parsedAt, wellFormedAt, listIn, listAt}
-use Rattle.hello.proofs.Vectors.{counted-short, counted-yes, counted-no}
+use Rattle.hello.proofs.Vectors.{field-yes, field-cut}
 use Rattle.hello.proofs.Lists.{fuel, big-at, step, list-end, size-of}
 
 -- a list that is well formed takes all the bytes to the end of the message
@@ -49,51 +49,44 @@ found-has t at (e ∷ es) =
 
 -- the block at place at
 module _ (then : Bool → List Extension → Parse Hello) (m : List ℕ) (at : ℕ) where
-  pub closing-none : length m ≤ at → closing (drop at m) then ≡ then false []
+  pub closing-none : length m ≤ at → closing (from m at) then ≡ then false []
   unfolding closing
   closing-none h = rw (drop-of-length-le m {i = at} h)
 
   some : at < length m → eqb (length (drop at m)) 0 ≡ false
   some h = rw length-drop (ne-eqb (length m - at) 0 (λ z. omega arith))
 
-  pub closing-short : at < length m → length m - at < 2 → closing (drop at m) then ≡ malformed
+  pub closing-short : at < length m → length m - at < 2 → closing (from m at) then ≡ malformed (length m)
   unfolding closing
-  closing-short h s = rw (some h) (counted-short _ 2 m at s)
+  closing-short h s = rw (some h) (field-cut _ 2 m at (omega arith) s)
 
   module _ (n : ℕ) (e : n ≡ pairAt m at) (h : at + 2 ≤ length m) where
-    pub closing-other : (n ≡ length m - (at + 2) → ⊥) → closing (drop at m) then ≡ malformed
+    covering : closing (from m at) then
+        ≡ pick (eqb n (length m - (at + 2))) (listed (extensionsOf (from m (at + 2))) (λ es. then true es)) (malformed at)
     unfolding closing
-    closing-other d = rw (some (omega arith)) (go (leb (at + 2 + n) (length m)) refl)
-      where
-        go : (b : Bool) → leb (at + 2 + n) (length m) ≡ b
-            → counted 2 (drop at m) (λ inside after. pick (eqb (length after) 0) (listed (extensionsOf inside) (λ es. then true es)) malformed) ≡ malformed
-        go true p = counted-yes _ 2 m at n (e ∙ sym (big-at m at h)) h (leb-true _ _ p) ∙ (rw (length-drop, ne-eqb (length m - (at + 2 + n)) 0 (λ z. d (omega (arith, leb-true (at + 2 + n) (length m) p)))))
-        go false p = counted-no _ 2 m at n (e ∙ sym (big-at m at h)) h (leb-false _ _ p)
+    covering =
+        let g : big (take 2 (drop at m)) ≡ n = big-at m at h ∙ sym e in
+        rw (some (omega arith)) (field-yes _ 2 (from m at) (rw length-drop (omega arith)) ∙ (rw (g, drop-drop, length-drop)))
+
+    pub closing-other : (n ≡ length m - (at + 2) → ⊥) → closing (from m at) then ≡ malformed at
+    closing-other d = covering ∙ (rw (ne-eqb n (length m - (at + 2)) d))
 
     module _ (x : n ≡ length m - (at + 2)) where
-      inside : closing (drop at m) then ≡ listed (parsedAt m (at + 2)) (λ es. then true es)
-      unfolding closing extensionsOf parsedAt
+      inside : closing (from m at) then ≡ listed (parsedAt m (at + 2)) (λ es. then true es)
+      unfolding extensionsOf parsedAt
       inside =
-          let l : length (drop (at + 2) m) ≡ n = length-drop (at + 2) m ∙ sym x in
-          let z : length (drop (at + 2 + n) m) ≡ 0 = rw length-drop (omega arith) in
-          rw (some (omega arith))
-          (counted-yes _ 2 m at n (e ∙ sym (big-at m at h)) h (omega arith)
-          ∙ (rw (z, take-all n (drop (at + 2) m) (omega arith), fuel (length (drop (at + 2) m)) (length m) (drop (at + 2) m) (omega arith) (omega arith))))
+          covering
+          ∙ (rw (eq-eqb n (length m - (at + 2)) x, fuel (length (drop (at + 2) m)) (length m) (from m (at + 2)) (omega arith) (rw length-drop (omega arith))))
 
-      pub closing-bad : wellFormedAt m (at + 2) ≡ false → closing (drop at m) then ≡ malformed
-      unfolding wellFormedAt
-      closing-bad w = inside ∙ go (parsedAt m (at + 2)) w
-        where
-          go : (p : Parse (List Extension)) → not (isMalformed p) ≡ false → listed p (λ es. then true es) ≡ malformed
-          go malformed q = refl
-          go (parsed es) q = absurd (eqb-false 1 0 refl (cc))
+      pub closing-bad : (p : ℕ) → parsedAt m (at + 2) ≡ malformed p → closing (from m at) then ≡ malformed p
+      closing-bad p w = inside ∙ (rw w)
 
-      pub closing-yes : wellFormedAt m (at + 2) ≡ true → closing (drop at m) then ≡ then true (listAt m (at + 2))
+      pub closing-yes : wellFormedAt m (at + 2) ≡ true → closing (from m at) then ≡ then true (listAt m (at + 2))
       unfolding wellFormedAt listAt
       closing-yes w = inside ∙ go (parsedAt m (at + 2)) w
         where
           go : (p : Parse (List Extension)) → not (isMalformed p) ≡ true → listed p (λ es. then true es) ≡ then true (listIn p)
-          go malformed q = absurd (eqb-false 1 0 refl (cc))
+          go (malformed p) q = absurd (eqb-false 1 0 refl (cc))
           go (parsed es) q = refl
 
 -- what is said of a list, from the answers of the walks over it

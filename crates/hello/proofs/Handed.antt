@@ -11,7 +11,7 @@ use lib.Seq.{take-all}
 use borrow.Author.Tests.{le-leb, lt-leb, leb-true, leb-false}
 use Rattle.seqs.specs.Cases.{by-test}
 use Rattle.message.specs.Numbers.{pairAt}
-use Rattle.hello.specs.Layout.{parsed}
+use Rattle.hello.specs.Layout.{parsed, from}
 use Rattle.hello.specs.Extensions.{Extension, extensionsOf}
 use Rattle.hello.specs.Cuts.{parsedAt, wellFormedAt, listAt}
 use Rattle.hello.specs.Next.{noNext, nextOf, nextAt, HandsOut, ListHandedOut, HandedOnce}
@@ -41,10 +41,10 @@ handed-from m (suc k) i h l w =
     (refl, refl, record { within = s .within; is = refl }, handed-from m k (i + 4 + pairAt m (i + 2)) (s .within) (omega (arith, s .within)) (s .whole)))
 
 -- bytes that are a list of extensions are well formed where they stand at the end of a message
-module _ (m : List ℕ) (i : ℕ) (es : List Extension) (e : extensionsOf (drop i m) ≡ parsed es) where
+module _ (m : List ℕ) (i : ℕ) (es : List Extension) (e : extensionsOf (from m i) ≡ parsed es) where
   here : parsedAt m i ≡ parsed es
   unfolding parsedAt extensionsOf
-  here = fuel (length m) (length (drop i m)) (drop i m) (rw length-drop (omega arith)) (omega arith) ∙ e
+  here = fuel (length m) (length (drop i m)) (from m i) (rw length-drop (omega arith)) (omega arith) ∙ e
 
   formed : wellFormedAt m i ≡ true
   unfolding wellFormedAt
@@ -58,7 +58,7 @@ pub handed : ListHandedOut
 handed m x b es l =
     let i = x .list .at in
     let n : length (drop i m) ≤ x .list .length = rw length-drop (omega (arith, l .ends)) in
-    let e : extensionsOf (drop i m) ≡ parsed es = ap extensionsOf (sym (take-all (x .list .length) (drop i m) n)) ∙ l .list in
+    let e : extensionsOf (from m i) ≡ parsed es = ap (λ (b : List ℕ). extensionsOf (record { at = i; bytes = b })) (sym (take-all (x .list .length) (drop i m) n)) ∙ l .list in
     rw (← list-is m i es e) (handed-from m (length m) i (omega (arith, l .ends)) (omega arith) (formed m i es e))
 
 pub handed-once : HandedOnce

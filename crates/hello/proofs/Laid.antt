@@ -2,58 +2,61 @@
 -- Assumes nothing.
 use mathlib.Core.Path.{_≡_, refl, sym, _∙_, ap}
 use mathlib.Core.Bool.{Bool, true, false}
-use mathlib.Core.List.{List}
-use Prim.Native.Nat.{ℕ, zero, suc, _+_, _%_, _≤_}
+use mathlib.Core.List.{List, _++_}
+use Prim.Native.Nat.{ℕ, _+_, _%_, _≤_}
 use native.Mathlib.Omega.{arith}
 use lib.Dec.{eqb}
 use lib.ListN.{length, take, drop, length-drop}
-use borrow.Author.Tests.{eqb-true, ltb-false}
+use borrow.Author.Tests.{eqb-true, ltb-false, not-false}
 use lib.Seq.{drop-drop}
-use Rattle.seqs.specs.Pick.{pick}
-use Rattle.hello.specs.Layout.{Parse, malformed, parsed, big}
+use Rattle.seqs.specs.Cases.{by-test}
+use Rattle.hello.specs.Layout.{Parse, malformed, parsed, from, big}
 use Rattle.hello.specs.Extensions.{Extension, twice}
-use Rattle.message.specs.Frame.{bodyOf, overlong}
-use Rattle.refusal.proofs.First.{first-zero}
-use Rattle.hello.specs.Fields.{Hello, fields, closing, helloNumber, readingOf, clientLayout, serverLayout}
-use Rattle.hello.specs.Places.{listPlace}
+use Rattle.message.specs.Frame.{kindOf, overlong, misstated, otherKind, headerTests}
+use Rattle.refusal.specs.First.{Fault}
+use Rattle.refusal.proofs.First.{first-zero, fault-number}
+use Rattle.hello.specs.Fields.{Hello, Form, clientForm, serverForm, laidOut, bodyTests, helloFault, fields, fault, listPlace, closing, readingOf, readAs, clientLayout, serverLayout}
 use Rattle.hello.specs.Cuts.{wellFormedAt, listAt}
 use Rattle.message.proofs.Frames.{stated-long}
 use Rattle.hello.proofs.Lists.{size-of}
-use Rattle.hello.proofs.Inversions.{no-parsed, field-at, vector-at, opening-at, closing-at}
+use Rattle.hello.proofs.Inversions.{pick-parsed, field-at, vector-at, opening-at, closing-at}
 
-pub reading-zero : (n : ℕ) (p : Parse Hello) (f : Hello) → readingOf n p ≡ fields f → (n ≡ 0) × (p ≡ parsed f)
-reading-zero n malformed f e = let z : _≡_ {A = ℕ} 0 1 = cc in absurd (omega arith)
-reading-zero zero (parsed g) f e = (refl, cc)
-reading-zero (suc n) (parsed g) f e = let z : _≡_ {A = ℕ} 0 1 = cc in absurd (omega arith)
+pub reading-zero : (e : Fault) (p : Parse Hello) (f : Hello) → readingOf e p ≡ fields f → (e .number ≡ 0) × (p ≡ parsed f)
+reading-zero e (malformed q) f h = let z : _≡_ {A = ℕ} 0 1 = cc in absurd (omega arith)
+reading-zero e (parsed g) f h =
+    by-test (eqb (e .number) 0)
+    (λ t. let y : fields g ≡ fields f = rw t at h in (eqb-true _ 0 t, cc))
+    (λ t. let y : fault (e .number) (e .place) ≡ fields f = rw t at h in let z : _≡_ {A = ℕ} 0 1 = cc in absurd (omega arith))
 
 pub parsed-same : {A : Type 0} {x y : A} → parsed x ≡ parsed y → y ≡ x
 parsed-same e = cc
 
 -- fields stand only where no test holds, in a message that is long enough to have a header
-pub record Clean (layout : List ℕ → Parse Hello) (wrong : ℕ → Bool) (m : List ℕ) (f : Hello) : Type 0 where
+pub record Clean (k : Form) (m : List ℕ) (f : Hello) : Type 0 where
   pub shortest : 4 ≤ length m
   pub longest : length m ≤ 16388
-  pub laid : layout (drop 4 m) ≡ parsed f
+  pub short : overlong m ≡ false
+  pub kind : kindOf m ≡ k .kind
+  pub stated : misstated m ≡ false
+  pub laid : laidOut k m ≡ parsed f
   pub differ : twice (f .extensions) ≡ false
-  pub version : wrong (f .version) ≡ false
+  pub version : k .wrong (f .version) ≡ false
 
-pub clean : (kind : ℕ) (layout : List ℕ → Parse Hello) (wrong : ℕ → Bool) (m : List ℕ) (f : Hello)
-    → readingOf (helloNumber kind layout wrong m) (layout (bodyOf m)) ≡ fields f → Clean layout wrong m f
-unfolding helloNumber bodyOf overlong
-clean kind layout wrong m f e =
-    let r = reading-zero (helloNumber kind layout wrong m) (layout (bodyOf m)) f e in
-    let z = first-zero _ refl (r .0) in
+pub clean : (k : Form) (m : List ℕ) (f : Hello) → readAs k m ≡ fields f → Clean k m f
+unfolding helloFault overlong otherKind
+clean k m f e =
+    let r = reading-zero (helloFault k m) (laidOut k m) f e in
+    let z = first-zero _ refl (sym (fault-number (headerTests (k .kind) m ++ bodyTests k (laidOut k m))) ∙ r .0) in
     record {
-      shortest = stated-long m (z .1 .0);
+      shortest = stated-long m (z .1 .1 .0);
       longest = ltb-false 16388 (length m) (z .0);
+      short = z .0;
+      kind = eqb-true (kindOf m) (k .kind) (not-false _ (z .1 .0));
+      stated = z .1 .1 .0;
       laid = r .1;
       differ = rw (r .1) at (z .1 .1 .1 .1 .0);
       version = rw (r .1) at (z .1 .1 .1 .1 .1 .0);
     }
-
-pub pick-parsed : {A : Type 0} (b : Bool) (x : Parse A) (y : A) → pick b x malformed ≡ parsed y → (b ≡ true) × (x ≡ parsed y)
-pick-parsed true x y e = (refl, e)
-pick-parsed false x y e = no-parsed refl e
 
 -- a hello that was laid out, with its parts
 pub record ClientParts (m : List ℕ) (f : Hello) : Type 0 where
@@ -80,12 +83,12 @@ pub record ClientParts (m : List ℕ) (f : Hello) : Type 0 where
     extensions = listAt m (listPlace b (39 + i + 2 + s + 1 + t));
   }
 
-pub client-parts : (m : List ℕ) (f : Hello) → 4 ≤ length m → clientLayout (drop 4 m) ≡ parsed f → ClientParts m f
+pub client-parts : (m : List ℕ) (f : Hello) → 4 ≤ length m → laidOut clientForm m ≡ parsed f → ClientParts m f
 unfolding clientLayout
 client-parts m f h e =
-    let o = opening-at f _ m h e in
+    let o = opening-at f _ m 4 h e in
     let v = vector-at f _ 2 2 65534 m (39 + o .0) (o .1) (o .3) in
-    let p = pick-parsed (eqb (length (take (v .0) (drop (39 + o .0 + 2) m)) % 2) 0) _ f (v .4) in
+    let p = pick-parsed (eqb (length (take (v .0) (drop (39 + o .0 + 2) m)) % 2) 0) _ _ f (v .4) in
     let n : length (take (v .0) (drop (39 + o .0 + 2) m)) ≡ v .0 = size-of m (39 + o .0 + 2) (v .0) (v .1) in
     let w = vector-at f _ 1 1 255 m (39 + o .0 + 2 + v .0) (v .1) (p .1) in
     let c = closing-at f _ m (39 + o .0 + 2 + v .0 + 1 + w .0) (w .1) (w .4) in
@@ -123,14 +126,14 @@ pub record ServerFront (m : List ℕ) (f : Hello) : Type 0 where
   pub i : ℕ
   pub short : i ≤ 32
   pub whole : 39 + i + 3 ≤ length m
-  pub tail : closing (drop (39 + i + 3) m) (λ b es. parsed (serverFields m i b es)) ≡ parsed f
+  pub tail : closing (from m (39 + i + 3)) (λ b es. parsed (serverFields m i b es)) ≡ parsed f
 
-pub server-front : (m : List ℕ) (f : Hello) → 4 ≤ length m → serverLayout (drop 4 m) ≡ parsed f → ServerFront m f
+pub server-front : (m : List ℕ) (f : Hello) → 4 ≤ length m → laidOut serverForm m ≡ parsed f → ServerFront m f
 unfolding serverLayout
 server-front m f h e =
-    let o = opening-at f _ m h e in
-    let v = field-at f _ 2 (drop (39 + o .0) m) (o .3) in
-    let w = field-at f _ 1 (drop (39 + o .0 + 2) m) (rw drop-drop at (v .1)) in
+    let o = opening-at f _ m 4 h e in
+    let v = field-at f _ 2 (from m (39 + o .0)) (o .3) in
+    let w = field-at f _ 1 (from m (39 + o .0 + 2)) (rw drop-drop at (v .1)) in
     let n : 39 + o .0 + 2 + 1 ≡ 39 + o .0 + 3 = omega arith in
     let l : 39 + o .0 + 3 ≤ length m = omega (arith, length-drop (39 + o .0) m, length-drop (39 + o .0 + 2) m, v .0, w .0) in
     record { i = o .0; short = o .2; whole = l; tail = rw (drop-drop, n) at (w .1) }

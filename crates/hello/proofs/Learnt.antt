@@ -1,24 +1,26 @@
 -- What specs/Learnt.antt says a caller learns of a hello that was read.
 -- Assumes nothing.
-use mathlib.Core.Path.{_≡_, refl, _∙_, ap}
-use mathlib.Core.Bool.{Bool, true}
-use mathlib.Core.List.{List}
+use mathlib.Core.Path.{_≡_, refl, sym, _∙_, ap}
+use mathlib.Core.Bool.{Bool, true, false}
+use mathlib.Core.List.{List, _++_}
 use mathlib.Core.Option.{some}
-use Prim.Native.Nat.{ℕ, zero, suc, _+_, _-_, _≤_}
+use Prim.Native.Nat.{ℕ, _+_, _-_, _≤_}
 use native.Mathlib.Omega.{arith}
+use lib.Dec.{eqb}
 use lib.ListN.{length, take, drop, length-drop}
 use lib.Seq.{take-all}
-use borrow.Author.Tests.{eqb-true, ltb-false, not-false}
+use borrow.Author.Tests.{eqb-true, eqb-false, ltb-false, not-false}
 use Rattle.seqs.specs.Flag.{bit}
-use Rattle.seqs.specs.Cases.{not-both}
+use Rattle.seqs.specs.Cases.{by-test, not-both}
 use Rattle.hello.specs.Layout.{Parse, malformed, parsed}
-use Rattle.message.specs.Frame.{bodyOf}
-use Rattle.refusal.specs.Table.{refusalOf}
-use Rattle.refusal.proofs.First.{first-zero, first-within}
+use Rattle.message.specs.Frame.{headerTests}
+use Rattle.refusal.specs.First.{Fault}
+use Rattle.refusal.specs.Table.{placed, refusalAt}
+use Rattle.refusal.proofs.First.{first-zero, first-within, fault-number, fault-bare}
 use Rattle.refusal.specs.declared.Refusal.{Refusal}
 use Rattle.hello.specs.Extensions.{riKind}
-use Rattle.hello.specs.Fields.{Hello, Reading, fields, fault, isMalformed, helloNumber, readingOf, clientLayout, serverLayout, wrongClientVersion, wrongServerVersion, readClient, readServer}
-use Rattle.hello.specs.Places.{sizeOf, bytesPart, listPlace, extensionsAt, clientPlaces, serverPlaces, clientAnswer, serverAnswer}
+use Rattle.hello.specs.Fields.{Hello, Reading, fields, fault, Form, clientForm, serverForm, laidOut, bodyTests, helloFault, isMalformed, readingOf, readAs, listPlace, readClient, readServer}
+use Rattle.hello.specs.Places.{sizeOf, bytesPart, extensionsAt, clientPlaces, serverPlaces, clientAnswer, serverAnswer}
 use Rattle.hello.specs.Cuts.{wellFormedAt, listAt}
 use Rattle.hello.specs.Learnt.{ExtensionsLearnt, ClientBounds, ServerBounds, ClientLearnt, ServerLearnt}
 use Rattle.hello.specs.declared.client.ClientHello.{ClientHello}
@@ -51,10 +53,10 @@ extensions-learnt m block i h w =
     }
 
 -- the places of the fields that were laid out
-client-fields : (m : List ℕ) (h : ClientHello) (f : Hello) → readClient m ≡ fields f → h ≡ clientPlaces f → ClientLearnt m h
+client-fields : (m : List ℕ) (h : ClientHello) (f : Hello) → readClient m ≡ fields f → h ≡ clientPlaces 4 f → ClientLearnt m h
 unfolding readClient clientPlaces
 client-fields m h f e q =
-    let r = clean 1 clientLayout wrongClientVersion m f e in
+    let r = clean clientForm m f e in
     let p = client-parts m f (r .shortest) (r .laid) in
     let l : length (take (p .i) (drop 39 m)) ≡ p .i = size-of m 39 (p .i) (omega (arith, p .whole)) in
     let n : length (take (p .s) (drop (39 + p .i + 2) m)) ≡ p .s = size-of m (39 + p .i + 2) (p .s) (omega (arith, p .whole)) in
@@ -85,10 +87,10 @@ client-fields m h f e q =
       };
     }
 
-server-fields : (m : List ℕ) (h : ServerHello) (f : Hello) → readServer m ≡ fields f → h ≡ serverPlaces f → ServerLearnt m h
+server-fields : (m : List ℕ) (h : ServerHello) (f : Hello) → readServer m ≡ fields f → h ≡ serverPlaces 4 f → ServerLearnt m h
 unfolding readServer serverPlaces
 server-fields m h f e q =
-    let r = clean 2 serverLayout wrongServerVersion m f e in
+    let r = clean serverForm m f e in
     let g = server-front m f (r .shortest) (r .laid) in
     let p = server-parts m f g in
     let l : length (take (g .i) (drop 39 m)) ≡ g .i = size-of m 39 (g .i) (omega (arith, g .whole)) in
@@ -116,11 +118,11 @@ server-fields m h f e q =
 
 pub client-bounds : (m : List ℕ) (f : Hello) → readClient m ≡ fields f → ClientBounds m f
 unfolding client-fields
-client-bounds m f e = client-fields m (clientPlaces f) f e refl .bounds
+client-bounds m f e = client-fields m (clientPlaces 4 f) f e refl .bounds
 
 pub server-bounds : (m : List ℕ) (f : Hello) → readServer m ≡ fields f → ServerBounds m f
 unfolding server-fields
-server-bounds m f e = server-fields m (serverPlaces f) f e refl .bounds
+server-bounds m f e = server-fields m (serverPlaces 4 f) f e refl .bounds
 
 -- from the answer of the reader
 pub client-learnt : (m : List ℕ) (h : ClientHello) → client.Read h ≡ clientAnswer (readClient m) → ClientLearnt m h
@@ -129,7 +131,7 @@ client-learnt m h e = go (readClient m) refl e
   where
     go : (r : Reading) → readClient m ≡ r → client.Read h ≡ clientAnswer r → ClientLearnt m h
     go (fields f) p q = client-fields m h f p (cc)
-    go (fault n) p q = let z : _≡_ {A = ℕ} 0 1 = cc in absurd (omega arith)
+    go (fault n at) p q = let z : _≡_ {A = ℕ} 0 1 = cc in absurd (omega arith)
 
 pub server-learnt : (m : List ℕ) (h : ServerHello) → server.Read h ≡ serverAnswer (readServer m) → ServerLearnt m h
 unfolding serverAnswer
@@ -137,34 +139,44 @@ server-learnt m h e = go (readServer m) refl e
   where
     go : (r : Reading) → readServer m ≡ r → server.Read h ≡ serverAnswer r → ServerLearnt m h
     go (fields f) p q = server-fields m h f p (cc)
-    go (fault n) p q = let z : _≡_ {A = ℕ} 0 1 = cc in absurd (omega arith)
+    go (fault n at) p q = let z : _≡_ {A = ℕ} 0 1 = cc in absurd (omega arith)
 
--- where it refused, the number is the reading's
+-- where it refused, number and place are the reading's
 pub record Faulted (r : Reading) (x : Refusal) : Type 0 where
   pub number : ℕ
-  pub reading : r ≡ fault number
-  pub refusal : x ≡ refusalOf number
+  pub place : ℕ
+  pub reading : r ≡ fault number place
+  pub refusal : x ≡ refusalAt number place
   pub some : number ≡ 0 → ⊥
   pub within : number ≤ 11
+  -- 0 beside every number but 1 and 2
+  pub bare : placed number ≡ false → place ≡ 0
 
 -- the number of a reading without fields: of what is malformed it is not 0, and of fields 0 is none
-fault-is : (k n : ℕ) (p : Parse Hello) → readingOf k p ≡ fault n → (k ≡ n) × ((n ≡ 0) → isMalformed p ≡ true)
-fault-is k n malformed e = (cc, λ z. refl)
-fault-is zero n (parsed f) e = let y : _≡_ {A = ℕ} 0 1 = cc in absurd (omega arith)
-fault-is (suc k) n (parsed f) e = let y : suc k ≡ n = cc in (y, λ z. absurd (omega arith))
+pub fault-is : (e : Fault) (n at : ℕ) (p : Parse Hello) → readingOf e p ≡ fault n at → (e .number ≡ n) × (e .place ≡ at) × ((n ≡ 0) → isMalformed p ≡ true)
+fault-is e n at (malformed q) h = (cc, cc, λ z. refl)
+fault-is e n at (parsed f) h =
+    by-test (eqb (e .number) 0)
+    (λ t. let x : fields f ≡ fault n at = rw t at h in let y : _≡_ {A = ℕ} 0 1 = cc in absurd (omega arith))
+    (λ t.
+    let x : fault (e .number) (e .place) ≡ fault n at = rw t at h in
+    let y : e .number ≡ n = cc in
+    (y, cc, λ z. absurd (eqb-false _ 0 t (y ∙ z))))
 
-faulted : (kind : ℕ) (layout : List ℕ → Parse Hello) (wrong : ℕ → Bool) (m : List ℕ) (n : ℕ) (x : Refusal)
-    → readingOf (helloNumber kind layout wrong m) (layout (bodyOf m)) ≡ fault n → x ≡ refusalOf n
-    → Faulted (readingOf (helloNumber kind layout wrong m) (layout (bodyOf m))) x
-unfolding helloNumber
-faulted kind layout wrong m n x e q =
-    let d = fault-is (helloNumber kind layout wrong m) n (layout (bodyOf m)) e in
+faulted : (k : Form) (m : List ℕ) (n at : ℕ) (x : Refusal) → readAs k m ≡ fault n at → x ≡ refusalAt n at → Faulted (readAs k m) x
+unfolding helloFault
+faulted k m n at x e q =
+    let tests = headerTests (k .kind) m ++ bodyTests k (laidOut k m) in
+    let d = fault-is (helloFault k m) n at (laidOut k m) e in
+    let c = sym (fault-number tests) ∙ d .0 in
     record {
       number = n;
+      place = at;
       reading = e;
       refusal = q;
-      some = λ z. let none = first-zero _ refl (d .0 ∙ z) in not-both (d .1 z) (none .1 .1 .1 .0);
-      within = rw (← (d .0)) (first-within _ refl);
+      some = λ z. let none = first-zero _ refl (c ∙ z) in not-both (d .2 z) (none .1 .1 .1 .0);
+      within = rw (← c) (first-within _ refl);
+      bare = λ z. sym (d .1) ∙ fault-bare tests refl (ap placed (d .0) ∙ z);
     }
 
 pub client-fault : (m : List ℕ) (x : Refusal) → client.Refused x ≡ clientAnswer (readClient m) → Faulted (readClient m) x
@@ -173,7 +185,7 @@ client-fault m x e = go (readClient m) refl e
   where
     go : (r : Reading) → readClient m ≡ r → client.Refused x ≡ clientAnswer r → Faulted (readClient m) x
     go (fields f) p q = let z : _≡_ {A = ℕ} 0 1 = cc in absurd (omega arith)
-    go (fault n) p q = faulted 1 clientLayout wrongClientVersion m n x p (cc)
+    go (fault n at) p q = faulted clientForm m n at x p (cc)
 
 pub server-fault : (m : List ℕ) (x : Refusal) → server.Refused x ≡ serverAnswer (readServer m) → Faulted (readServer m) x
 unfolding serverAnswer readServer
@@ -181,4 +193,4 @@ server-fault m x e = go (readServer m) refl e
   where
     go : (r : Reading) → readServer m ≡ r → server.Refused x ≡ serverAnswer r → Faulted (readServer m) x
     go (fields f) p q = let z : _≡_ {A = ℕ} 0 1 = cc in absurd (omega arith)
-    go (fault n) p q = faulted 2 serverLayout wrongServerVersion m n x p (cc)
+    go (fault n at) p q = faulted serverForm m n at x p (cc)

@@ -2,6 +2,7 @@ pub mod Vectors
 pub mod Lists
 pub mod Walks
 pub mod Closings
+pub mod Repeats
 pub mod Hellos
 pub mod Answers
 pub mod Inversions
@@ -11,3 +12,4 @@ pub mod ListBytes
 pub mod Learnt
 pub mod Reread
 pub mod Handed
+pub mod Within

@@ -8,7 +8,7 @@ use lib.Dec.{eqb}
 use lib.ListN.{length}
 use borrow.Author.Tests.{eq-eqb, ne-eqb}
 use Rattle.message.specs.Numbers.{byteAt}
-use Rattle.hello.specs.Extensions.{Extension, emsKind, riKind, shaped, knownKind, has, twice, othersOf}
+use Rattle.hello.specs.Extensions.{Extension, emsKind, riKind, shaped, knownKind, has, othersOf}
 use Rattle.hello.specs.Places.{part, partOf}
 
 -- the shape of an extension's data
@@ -44,14 +44,6 @@ module _ (e : Extension) (es : List Extension) where
   pub has-later : (t : ℕ) → (e .kind ≡ t → ⊥) → has t (e ∷ es) ≡ has t es
   unfolding has
   has-later t h = rw (ne-eqb (e .kind) t h)
-
-  pub twice-here : has (e .kind) es ≡ true → twice (e ∷ es) ≡ true
-  unfolding twice
-  twice-here h = rw h
-
-  pub twice-later : has (e .kind) es ≡ false → twice (e ∷ es) ≡ twice es
-  unfolding twice
-  twice-later h = rw h
 
   pub others-here : knownKind (e .kind) ≡ false → othersOf (e ∷ es) ≡ true
   unfolding othersOf

@@ -1,16 +1,16 @@
 -- 'Reading a hello answers either its fields or the first fault.' The fields of a ClientHello and a ServerHello (RFC 5246,
--- sections 7.4.1.2 and 7.4.1.3), and the number where there are none.
+-- sections 7.4.1.2 and 7.4.1.3), and the number and the place where there are none.
 -- Assumes nothing.
 use mathlib.Core.Bool.{Bool, true, false, not, _||_}
-use mathlib.Core.List.{List, [], _∷_}
-use Prim.Native.Nat.{ℕ, zero, suc, _+_, _*_, _%_}
+use mathlib.Core.List.{List, [], _∷_, _++_}
+use Prim.Native.Nat.{ℕ, _+_, _*_, _%_}
 use lib.Dec.{ltb, eqb}
 use lib.ListN.{length}
 use Rattle.seqs.specs.Pick.{pick}
-use Rattle.refusal.specs.First.{firstOf}
-use Rattle.message.specs.Frame.{overlong, misstated, kindOf, bodyOf}
-use Rattle.hello.specs.Layout.{Parse, malformed, parsed, big, field, counted, vector}
-use Rattle.hello.specs.Extensions.{Extension, extensionsOf, twice}
+use Rattle.refusal.specs.First.{Fault, firstFault}
+use Rattle.message.specs.Frame.{headerTests}
+use Rattle.hello.specs.Layout.{Parse, malformed, parsed, Left, from, big, field, vector}
+use Rattle.hello.specs.Extensions.{Extension, extensionsOf, twice, repeatAt}
 
 pub record Hello : Type 0 where
   pub version : ℕ
@@ -26,25 +26,25 @@ pub record Hello : Type 0 where
   pub extensions : List Extension
 
 -- 'version 2, random 32, identifier length 1 (0 to 32) and identifier': how both begin
-unfoldable pub opening : List ℕ → (List ℕ → List ℕ → List ℕ → List ℕ → Parse Hello) → Parse Hello
+unfoldable pub opening : Left → (List ℕ → List ℕ → List ℕ → Left → Parse Hello) → Parse Hello
 opening l then =
     field 2 l (λ version l₁. field 32 l₁ (λ random l₂. vector 1 0 32 l₂ (λ identifier l₃. then version random identifier l₃)))
 
 -- the extensions, once the list of them is known to be whole
 abbrev pub listed : Parse (List Extension) → (List Extension → Parse Hello) → Parse Hello
-listed malformed then = malformed
+listed (malformed p) then = malformed p
 listed (parsed es) then = then es
 
 -- 'Then either the body ends or a 2-byte length covers exactly the rest: extensions'
-unfoldable pub closing : List ℕ → (Bool → List Extension → Parse Hello) → Parse Hello
+unfoldable pub closing : Left → (Bool → List Extension → Parse Hello) → Parse Hello
 closing l then =
-    pick (eqb (length l) 0) (then false [])
-    (counted 2 l
-    (λ inside after.
-    pick (eqb (length after) 0) (listed (extensionsOf inside) (λ es. then true es)) malformed))
+    pick (eqb (length (l .bytes)) 0) (then false [])
+    (field 2 l
+    (λ n rest.
+    pick (eqb (big n) (length (rest .bytes))) (listed (extensionsOf rest) (λ es. then true es)) (malformed (l .at))))
 
 -- 'suites length 2 (even, 2 to 65,534) and suites, compression length 1 (1 to 255) and methods'
-unfoldable pub clientLayout : List ℕ → Parse Hello
+unfoldable pub clientLayout : Left → Parse Hello
 clientLayout body =
     opening body
     (λ version random identifier l₁.
@@ -56,10 +56,10 @@ clientLayout body =
     closing l₃
     (λ block extensions.
     parsed (record { version = big version; random = random; identifier = identifier; suites = suites; methods = methods; block = block; extensions = extensions }))))
-    malformed))
+    (malformed (l₁ .at))))
 
 -- 'one suite 2, one method 1'
-unfoldable pub serverLayout : List ℕ → Parse Hello
+unfoldable pub serverLayout : Left → Parse Hello
 serverLayout body =
     opening body
     (λ version random identifier l₁.
@@ -78,6 +78,29 @@ signalIn [] = false
 signalIn (a ∷ []) = false
 signalIn (a ∷ b ∷ rest) = eqb (256 * a + b) 255 || signalIn rest
 
+-- where the fields of a body that begins at place start stand, by the lengths of those before them: the identifier behind version, random
+-- and its own length, suites and methods of a ClientHello behind theirs
+abbrev pub identifierAt : ℕ → ℕ
+identifierAt start = start + 35
+
+abbrev pub suitesAt : ℕ → Hello → ℕ
+suitesAt start f = identifierAt start + length (f .identifier) + 2
+
+abbrev pub methodsAt : ℕ → Hello → ℕ
+methodsAt start f = suitesAt start f + length (f .suites) + 1
+
+-- the list of extensions stands behind the 2-byte length of the block, if there is a block
+abbrev pub listPlace : Bool → ℕ → ℕ
+listPlace block at = pick block (at + 2) at
+
+-- in a ClientHello the block stands behind the methods
+abbrev pub clientListAt : ℕ → Hello → ℕ
+clientListAt start f = listPlace (f .block) (methodsAt start f + length (f .methods))
+
+-- in a ServerHello behind a suite and a method, 3 bytes
+abbrev pub serverListAt : ℕ → Hello → ℕ
+serverListAt start f = listPlace (f .block) (identifierAt start + length (f .identifier) + 3)
+
 -- 'A ClientHello below 03 03 is 3, higher ones pass'
 abbrev pub wrongClientVersion : ℕ → Bool
 wrongClientVersion v = ltb v 771
@@ -86,42 +109,65 @@ wrongClientVersion v = ltb v 771
 abbrev pub wrongServerVersion : ℕ → Bool
 wrongServerVersion v = not (eqb v 771)
 
--- a test of the fields, where there are fields
-abbrev pub among : Parse Hello → (Hello → Bool) → Bool
-among malformed test = false
-among (parsed f) test = test f
+-- What is asked of a hello: its type, where its body begins, how that is laid out, where the list of its extensions then stands, and
+-- which versions are wrong.
+pub record Form : Type 0 where
+  pub kind : ℕ
+  pub start : ℕ
+  pub layout : Left → Parse Hello
+  pub list : ℕ → Hello → ℕ
+  pub wrong : ℕ → Bool
+
+-- ClientHello, type 1; the body stands behind the header, 4 bytes
+abbrev pub clientForm : Form
+clientForm = record { kind = 1; start = 4; layout = clientLayout; list = clientListAt; wrong = wrongClientVersion }
+
+-- ServerHello, type 2
+abbrev pub serverForm : Form
+serverForm = record { kind = 2; start = 4; layout = serverLayout; list = serverListAt; wrong = wrongServerVersion }
+
+abbrev pub laidOut : Form → List ℕ → Parse Hello
+laidOut k m = k .layout (from m (k .start))
+
+-- of the fields, where there are fields
+abbrev pub among : {A : Type 0} → A → Parse Hello → (Hello → A) → A
+among other (malformed p) of = other
+among other (parsed f) of = of f
 
 abbrev pub isMalformed : {A : Type 0} → Parse A → Bool
-isMalformed malformed = true
+isMalformed (malformed p) = true
 isMalformed (parsed f) = false
 
--- the number of a message that is to be of the type kind and of that layout, with a version that is not wrong: 10, 1, 2, 3. 'The
--- wrong type is 1.'
-unfoldable pub helloNumber : ℕ → (List ℕ → Parse Hello) → (ℕ → Bool) → List ℕ → ℕ
-helloNumber kind layout wrong m =
-    firstOf
-    ((10, overlong m)
-    ∷ (1, misstated m)
-    ∷ (1, not (eqb (kindOf m) kind))
-    ∷ (1, isMalformed (layout (bodyOf m)))
-    ∷ (2, among (layout (bodyOf m)) (λ f. twice (f .extensions)))
-    ∷ (3, among (layout (bodyOf m)) (λ f. wrong (f .version)))
-    ∷ [])
+-- the place of the first fault, where there is one
+abbrev pub brokenIn : {A : Type 0} → Parse A → ℕ
+brokenIn (malformed p) = p
+brokenIn (parsed f) = 0
+
+-- the first fault, 10, 1, 2, 3: its number and, of 1 and 2, its place
+abbrev pub bodyTests : Form → Parse Hello → List (ℕ × ℕ × Bool)
+bodyTests k p =
+    (1, brokenIn p, isMalformed p)
+    ∷ (2, among 0 p (λ f. repeatAt (k .list (k .start) f) (f .extensions)), among false p (λ f. twice (f .extensions)))
+    ∷ (3, 0, among false p (λ f. k .wrong (f .version)))
+    ∷ []
+
+unfoldable pub helloFault : Form → List ℕ → Fault
+helloFault k m = firstFault (headerTests (k .kind) m ++ bodyTests k (laidOut k m))
 
 -- what reading a hello answers
 pub data Reading : Type 0 where
   fields : Hello → Reading
-  fault : ℕ → Reading
+  fault : ℕ → ℕ → Reading
 
-abbrev pub readingOf : ℕ → Parse Hello → Reading
-readingOf n malformed = fault n
-readingOf zero (parsed f) = fields f
-readingOf (suc n) (parsed f) = fault (suc n)
+abbrev pub readingOf : Fault → Parse Hello → Reading
+readingOf e (malformed p) = fault (e .number) (e .place)
+readingOf e (parsed f) = pick (eqb (e .number) 0) (fields f) (fault (e .number) (e .place))
 
--- ClientHello, type 1
+abbrev pub readAs : Form → List ℕ → Reading
+readAs k m = readingOf (helloFault k m) (laidOut k m)
+
 unfoldable pub readClient : List ℕ → Reading
-readClient m = readingOf (helloNumber 1 clientLayout wrongClientVersion m) (clientLayout (bodyOf m))
+readClient m = readAs clientForm m
 
--- ServerHello, type 2
 unfoldable pub readServer : List ℕ → Reading
-readServer m = readingOf (helloNumber 2 serverLayout wrongServerVersion m) (serverLayout (bodyOf m))
+readServer m = readAs serverForm m

@@ -11,7 +11,7 @@ use lib.ListN.{length}
 use Rattle.seqs.specs.Flag.{bit}
 use Rattle.hello.specs.Layout.{parsed, big}
 use Rattle.hello.specs.Extensions.{Extension, extensionsOf, twice, indicationOf, emsOf, othersOf}
-use Rattle.hello.specs.Fields.{Hello, fields, signalIn, readClient, readServer}
+use Rattle.hello.specs.Fields.{Hello, fields, signalIn, clientForm, serverForm, readClient, readServer}
 use Rattle.hello.specs.Places.{part, behind, bytesAt, Points, clientPlaces, serverPlaces}
 use Rattle.hello.specs.declared.parts.Extensions.{Extensions}
 use Rattle.hello.specs.declared.client.ClientHello.{ClientHello}
@@ -21,7 +21,7 @@ use Rattle.hello.specs.declared.server.ServerHello.{ServerHello}
 pub record ExtensionsLearnt (m : List ℕ) (x : Extensions) (b : Bool) (es : List Extension) : Type 0 where
   pub block : x .block ≡ bit b
   -- the bytes of the list are these extensions, and the end of the message
-  pub list : extensionsOf (bytesAt m (x .list)) ≡ parsed es
+  pub list : extensionsOf (record { at = x .list .at; bytes = bytesAt m (x .list) }) ≡ parsed es
   pub ends : behind (x .list) ≡ length m
   -- the RI, and its bytes
   pub indicated : (bytes : List ℕ) → indicationOf es ≡ some bytes → x .indicated ≡ 1
@@ -60,7 +60,7 @@ pub record ServerBounds (m : List ℕ) (h : Hello) : Type 0 where
 pub record ClientLearnt (m : List ℕ) (h : ClientHello) : Type 0 where
   pub hello : Hello
   pub reading : readClient m ≡ fields hello
-  pub places : h ≡ clientPlaces hello
+  pub places : h ≡ clientPlaces (clientForm .start) hello
   pub version : h .version ≡ hello .version
   pub random : Points m (h .random) (hello .random)
   pub identifier : Points m (h .identifier) (hello .identifier)
@@ -73,7 +73,7 @@ pub record ClientLearnt (m : List ℕ) (h : ClientHello) : Type 0 where
 pub record ServerLearnt (m : List ℕ) (h : ServerHello) : Type 0 where
   pub hello : Hello
   pub reading : readServer m ≡ fields hello
-  pub places : h ≡ serverPlaces hello
+  pub places : h ≡ serverPlaces (serverForm .start) hello
   pub version : h .version ≡ hello .version
   pub random : Points m (h .random) (hello .random)
   pub identifier : Points m (h .identifier) (hello .identifier)

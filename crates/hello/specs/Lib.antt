@@ -6,3 +6,4 @@ pub mod Cuts
 pub mod Written
 pub mod Learnt
 pub mod Next
+pub mod Within

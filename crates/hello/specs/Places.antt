@@ -9,11 +9,11 @@ use lib.Dec.{eqb}
 use lib.ListN.{length, take, drop}
 use Rattle.seqs.specs.Pick.{pick}
 use Rattle.seqs.specs.Flag.{bit}
-use Rattle.refusal.specs.Table.{refusalOf}
+use Rattle.refusal.specs.Table.{refusalOf, refusalAt}
 use Rattle.refusal.specs.declared.Refusal.{Refusal}
 use Rattle.hello.specs.Layout.{big}
 use Rattle.hello.specs.Extensions.{Extension, riKind, emsKind, has, othersOf}
-use Rattle.hello.specs.Fields.{Hello, Reading, fields, fault, signalIn}
+use Rattle.hello.specs.Fields.{Hello, Reading, fields, fault, signalIn, identifierAt, suitesAt, methodsAt, clientListAt, serverListAt, clientForm, serverForm}
 use Rattle.hello.specs.declared.parts.Part.{Part}
 use Rattle.hello.specs.declared.parts.Extensions.{Extensions}
 use Rattle.hello.specs.declared.client.ClientHello.{ClientHello}
@@ -65,51 +65,40 @@ extensionsAt block at es =
       others = bit (othersOf es);
     }
 
--- the list stands behind the 2-byte length of the block, if there is a block
-abbrev pub listPlace : Bool → ℕ → ℕ
-listPlace block at = pick block (at + 2) at
+-- the parts of a hello whose body begins at place start
+abbrev pub identifierPart : ℕ → Hello → Part
+identifierPart start f = part (identifierAt start) (length (f .identifier))
 
--- a hello's identifier stands behind the header, 4 bytes, version, random and its own length
-abbrev pub identifierPart : Hello → Part
-identifierPart f = part 39 (length (f .identifier))
-
-abbrev pub suitesPart : Hello → Part
-suitesPart f = part (behind (identifierPart f) + 2) (length (f .suites))
-
-abbrev pub methodsPart : Hello → Part
-methodsPart f = part (behind (suitesPart f) + 1) (length (f .methods))
-
-unfoldable pub clientPlaces : Hello → ClientHello
-clientPlaces f =
+unfoldable pub clientPlaces : ℕ → Hello → ClientHello
+clientPlaces start f =
     record {
       version = f .version;
-      random = part 6 32;
-      identifier = identifierPart f;
-      suites = suitesPart f;
-      methods = methodsPart f;
+      random = part (start + 2) 32;
+      identifier = identifierPart start f;
+      suites = part (suitesAt start f) (length (f .suites));
+      methods = part (methodsAt start f) (length (f .methods));
       signal = bit (signalIn (f .suites));
-      extensions = extensionsAt (f .block) (listPlace (f .block) (behind (methodsPart f))) (f .extensions);
+      extensions = extensionsAt (f .block) (clientListAt start f) (f .extensions);
     }
 
--- behind the identifier of a ServerHello stand a suite and a method, 3 bytes
-unfoldable pub serverPlaces : Hello → ServerHello
-serverPlaces f =
+unfoldable pub serverPlaces : ℕ → Hello → ServerHello
+serverPlaces start f =
     record {
       version = f .version;
-      random = part 6 32;
-      identifier = identifierPart f;
+      random = part (start + 2) 32;
+      identifier = identifierPart start f;
       suite = big (f .suites);
       compression = big (f .methods);
-      extensions = extensionsAt (f .block) (listPlace (f .block) (behind (identifierPart f) + 3)) (f .extensions);
+      extensions = extensionsAt (f .block) (serverListAt start f) (f .extensions);
     }
 
 unfoldable pub clientAnswer : Reading → ClientRead
-clientAnswer (fields f) = client.Read (clientPlaces f)
-clientAnswer (fault n) = client.Refused (refusalOf n)
+clientAnswer (fields f) = client.Read (clientPlaces (clientForm .start) f)
+clientAnswer (fault n p) = client.Refused (refusalAt n p)
 
 unfoldable pub serverAnswer : Reading → ServerRead
-serverAnswer (fields f) = server.Read (serverPlaces f)
-serverAnswer (fault n) = server.Refused (refusalOf n)
+serverAnswer (fields f) = server.Read (serverPlaces (serverForm .start) f)
+serverAnswer (fault n p) = server.Refused (refusalAt n p)
 
 -- the refusal of an answer, number 0 where there is none
 unfoldable pub clientRefusal : ClientRead → Refusal

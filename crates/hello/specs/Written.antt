@@ -6,7 +6,7 @@ use mathlib.Core.List.{List, [], _∷_, _++_}
 use Prim.Native.Nat.{ℕ, _+_, _/_, _%_}
 use lib.ListN.{length, drop}
 use Rattle.hello.specs.Extensions.{Extension, riKind, emsKind, shaped}
-use Rattle.hello.specs.Fields.{Hello}
+use Rattle.hello.specs.Fields.{Hello, serverForm}
 use Rattle.hello.specs.Places.{behind, identifierPart}
 
 -- a number in two bytes
@@ -36,4 +36,4 @@ Shaped (e ∷ es) = (shaped (e .kind) (e .content) ≡ true) × Shaped es
 
 -- the bytes of a ServerHello m, read as h, that stand behind its compression method: its extension block, if it has one
 abbrev pub behindMethod : List ℕ → Hello → List ℕ
-behindMethod m h = drop (behind (identifierPart h) + 3) m
+behindMethod m h = drop (behind (identifierPart (serverForm .start) h) + 3) m

@@ -1,6 +1,7 @@
 // Reading a ClientHello (RFC 5246, section 7.4.1.2).
 use crate::extensions::Block;
 use crate::extensions::read_block;
+use crate::layout::BODY;
 use crate::layout::Cut;
 use crate::layout::opening;
 use crate::layout::vector8;
@@ -8,14 +9,15 @@ use crate::layout::vector16;
 use crate::parts::Extensions;
 use crate::parts::Part;
 use crate::parts::flag;
-use crate::walk::repeated;
+use crate::walk::repeat;
 use message::Framed;
 use message::pair;
 use refusal::Refusal;
 use refusal::refuse;
+use refusal::refuse_at;
 ghost use mathlib.Core.Path.{_≡_};
 ghost use Prim.Native.Nat.{_+_, _≤_};
-ghost use lib.ListN.{length, take, drop};
+ghost use lib.ListN.{take, drop};
 ghost use Rattle.hello.specs.Fields.{signalIn, readClient};
 ghost use Rattle.hello.specs.Places.{clientAnswer, clientRefusal};
 ghost use Rattle.hello.specs.Cuts.{ClientLays};
@@ -50,11 +52,6 @@ impl ClientRead {
     }
 }
 
-pub(crate) enum ClientLaid {
-    Laid(ClientHello),
-    Malformed,
-}
-
 const CLIENT_HELLO: u8 = 1;
 
 // 03 03, TLS 1.2
@@ -66,55 +63,62 @@ const SIGNAL: usize = 255;
 pub fn read_client_hello(message: &[u8]) -> ClientRead
     ensures { λ r. ⌜ r ≡ clientAnswer (readClient (now (message .entry))) ⌝ }
 {
-    let framed = message::frame(message);
-    let Framed::Whole(header) = framed else {
+    let framed = message::frame_as(message, CLIENT_HELLO);
+    let Framed::Whole(_) = framed else {
         return ClientRead::Refused(framed.refusal());
     };
-    if header.kind != CLIENT_HELLO {
-        return ClientRead::Refused(refuse(1));
-    }
-    let ClientLaid::Laid(hello) = lay_client(message) else {
-        return ClientRead::Refused(refuse(1));
+    let laid = lay_client(message, BODY);
+    let ClientRead::Read(hello) = laid else {
+        return laid;
     };
     let extensions = hello.extensions;
     let list = extensions.list;
-    if repeated(message, list.at) {
-        return ClientRead::Refused(refuse(2));
+    let place = repeat(message, list.at);
+    if place != 0 {
+        return ClientRead::Refused(refuse_at(2, place));
     }
     if hello.version < LOWEST {
         return ClientRead::Refused(refuse(3));
     }
-    ClientRead::Read(hello)
+    laid
 }
 
-// The fields, in their order.
-fn lay_client(message: &[u8]) -> ClientLaid
-    ensures { λ r. ⌜ ClientLays (now (message .entry)) r ⌝ }
+// The fields, in their order, of a body that begins at place `start`.
+fn lay_client(message: &[u8], start: usize) -> ClientRead
+    requires { ⌜ start ≤ lib.ListN.length (now message) ⌝ }
+    ensures { λ r. ⌜ ClientLays (now (message .entry)) start r ⌝ }
 {
-    let Cut::Taken(identifier) = opening(message) else {
-        return ClientLaid::Malformed;
+    let cut = opening(message, start);
+    let Cut::Taken(identifier) = cut else {
+        return ClientRead::Refused(refuse_at(1, cut.place()));
     };
-    let Cut::Taken(suites) = vector16(message, identifier.at + identifier.length, 2, 65534) else {
-        return ClientLaid::Malformed;
+    let at = identifier.at + identifier.length;
+    let cut = vector16(message, at, 2, 65534);
+    let Cut::Taken(suites) = cut else {
+        return ClientRead::Refused(refuse_at(1, cut.place()));
     };
     if suites.length % 2 != 0 {
-        return ClientLaid::Malformed;
+        return ClientRead::Refused(refuse_at(1, at));
     }
-    let Cut::Taken(methods) = vector8(message, suites.at + suites.length, 1, 255) else {
-        return ClientLaid::Malformed;
+    let cut = vector8(message, suites.at + suites.length, 1, 255);
+    let Cut::Taken(methods) = cut else {
+        return ClientRead::Refused(refuse_at(1, cut.place()));
     };
-    let Block::Read(extensions) = read_block(message, methods.at + methods.length) else {
-        return ClientLaid::Malformed;
-    };
-    ClientLaid::Laid(ClientHello {
-        version: pair(message, 4) as u16,
-        random: Part { at: 6, length: 32 },
-        identifier,
-        suites,
-        methods,
-        signal: flag(signalled(message, suites.at, suites.length)),
-        extensions,
-    })
+    match read_block(message, methods.at + methods.length) {
+        Block::Malformed(place) => ClientRead::Refused(refuse_at(1, place)),
+        Block::Read(extensions) => ClientRead::Read(ClientHello {
+            version: pair(message, start) as u16,
+            random: Part {
+                at: start + 2,
+                length: 32,
+            },
+            identifier,
+            suites,
+            methods,
+            signal: flag(signalled(message, suites.at, suites.length)),
+            extensions,
+        }),
+    }
 }
 
 // The signal is a whole suite, two bytes.

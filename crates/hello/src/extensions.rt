@@ -4,9 +4,10 @@ use crate::parts::Part;
 use crate::parts::flag;
 use crate::walk::EMS;
 use crate::walk::RI;
+use crate::walk::Walked;
 use crate::walk::find;
 use crate::walk::others;
-use crate::walk::well_formed;
+use crate::walk::walk;
 use message::pair;
 ghost use mathlib.Core.Path.{_≡_};
 ghost use mathlib.Core.Bool.{true};
@@ -17,7 +18,8 @@ ghost use Rattle.hello.specs.Places.{bytesPart, extensionsAt};
 
 pub(crate) enum Block {
     Read(Extensions),
-    Malformed,
+    // the place of the fault
+    Malformed(usize),
 }
 
 // Nothing, or a length that covers exactly the rest, and extensions.
@@ -29,16 +31,16 @@ pub(crate) fn read_block(message: &[u8], at: usize) -> Block
         return Block::Read(described(message, false, at));
     }
     if message.len() - at < 2 {
-        return Block::Malformed;
+        return Block::Malformed(message.len());
     }
     let list = at + 2;
     if pair(message, at) != message.len() - list {
-        return Block::Malformed;
+        return Block::Malformed(at);
     }
-    if !well_formed(message, list) {
-        return Block::Malformed;
+    match walk(message, list) {
+        Walked::Broken(place) => Block::Malformed(place),
+        Walked::Whole => Block::Read(described(message, true, list)),
     }
-    Block::Read(described(message, true, list))
 }
 
 // What the extensions from place `at` on say.

@@ -7,8 +7,8 @@ ghost use mathlib.Core.Path.{_≡_};
 ghost use mathlib.Core.Bool.{true};
 ghost use Prim.Native.Nat.{_+_, _≤_};
 ghost use lib.ListN.{length, take, drop};
-ghost use Rattle.hello.specs.Extensions.{shaped, knownKind, twice, othersOf};
-ghost use Rattle.hello.specs.Cuts.{wellFormedAt, listAt};
+ghost use Rattle.hello.specs.Extensions.{shaped, knownKind, repeatAt, othersOf};
+ghost use Rattle.hello.specs.Cuts.{wellFormedAt, listAt, Walks};
 ghost use Rattle.hello.specs.Places.{partOf};
 
 // extended_master_secret, 00 17
@@ -30,47 +30,55 @@ pub fn well_shaped(kind: usize, data: &[u8]) -> bool
     true
 }
 
-pub(crate) fn well_formed(message: &[u8], at: usize) -> bool
+pub(crate) enum Walked {
+    Whole,
+    // the place of the first fault
+    Broken(usize),
+}
+
+// Each extension whole and of its shape: its type and length, then its data.
+pub(crate) fn walk(message: &[u8], at: usize) -> Walked
     requires { ⌜ at ≤ length (now message) ⌝ }
-    ensures { λ r. ⌜ r ≡ wellFormedAt (now (message .entry)) at ⌝ }
+    ensures { λ r. ⌜ Walks (now (message .entry)) at r ⌝ }
 {
     let mut i = at;
     while i < message.len() {
         if message.len() - i < 4 {
-            return false;
+            return Walked::Broken(message.len());
         }
         let n = pair(message, i + 2);
         if message.len() - i - 4 < n {
-            return false;
+            return Walked::Broken(i + 2);
         }
         let end = i + 4 + n;
         if !well_shaped(pair(message, i), &message[i + 4..end]) {
-            return false;
+            return Walked::Broken(i + 4);
         }
         i = end;
     }
-    true
+    Walked::Whole
 }
 
-// Every pair of types is compared, up to the first repeat.
-pub(crate) fn repeated(message: &[u8], at: usize) -> bool
+// The place of the first type that stands before it too; 0, where no type stands, if there is none. Each type is compared with all before
+// it, up to the first repeat.
+pub(crate) fn repeat(message: &[u8], at: usize) -> usize
     requires { ⌜ at ≤ length (now message) ⌝ }
     requires { ⌜ wellFormedAt (now message) at ≡ true ⌝ }
-    ensures { λ r. ⌜ r ≡ twice (listAt (now (message .entry)) at) ⌝ }
+    ensures { λ r. ⌜ r ≡ repeatAt at (listAt (now (message .entry)) at) ⌝ }
 {
-    let mut found = false;
+    let mut found: usize = 0;
     let mut i = at;
     'all: while i < message.len() {
         let kind = pair(message, i);
-        i = i + 4 + pair(message, i + 2);
-        let mut j = i;
-        while j < message.len() {
+        let mut j = at;
+        while j < i {
             if pair(message, j) == kind {
-                found = true;
+                found = i;
                 break 'all;
             }
             j = j + 4 + pair(message, j + 2);
         }
+        i = i + 4 + pair(message, i + 2);
     }
     found
 }

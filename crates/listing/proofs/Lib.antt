@@ -1,8 +1,11 @@
 pub mod Bodies
 pub mod Cases
-pub mod Columns
-pub mod Taking
 pub mod Decimals
+pub mod Answers
+pub mod Adding
+pub mod Columns
+pub mod Placing
+pub mod Taking
 pub mod Example
 pub mod Going
 pub mod Zeros

@@ -6,10 +6,12 @@ use Prim.Native.Nat.{ℕ, _+_}
 use lib.Dec.{eqb}
 use lib.ListN.{replicate}
 use Rattle.seqs.specs.Pick.{pick}
+use Rattle.refusal.specs.Table.{refusalAt}
+use Rattle.refusal.specs.declared.Refusal.{Refusal}
 use Rattle.message.specs.Frame.{kindOf}
 use Rattle.log.specs.History.{History}
 use Rattle.log.specs.History.History.{fresh}
-use Rattle.log.specs.Calls.{isFinished, acceptNumber, afterAccept}
+use Rattle.log.specs.Calls.{isFinished, brokenAt, acceptNumber, afterAccept}
 use Rattle.log.specs.Finish.{finishNumber, afterFinish}
 use Rattle.hello.specs.Fields.{readClient}
 use Rattle.sessions.specs.Book.{empty}
@@ -20,7 +22,7 @@ use Rattle.decision.specs.declared.connection.Decision.{Decision}
 use Rattle.listing.specs.Contents.{goodCase, bodiesOf}
 use Rattle.listing.specs.Texts.{header, refused, printed}
 use Rattle.listing.specs.declared.line.Column.{Column}
-use Rattle.listing.specs.declared.line.Column.the-variants.{Nothing, Number}
+use Rattle.listing.specs.declared.line.Column.the-variants.{Nothing, Number, Answer}
 
 -- 'An empty body has type `-`.'
 unfoldable pub kindColumn : List ℕ → Column
@@ -35,13 +37,17 @@ allOff = record { «indication_required» = 0; «legacy_full» = 0; «legacy_res
 unfoldable pub decisionOn : List ℕ → Decision
 decisionOn m = serverDecision 1 (readClient m) (sessionIn 1 (readClient m) empty) freshConnection allOff (replicate 35 0)
 
--- 'The hello column is the decision's number.'
-unfoldable pub decisionNumber : List ℕ → ℕ
-decisionNumber m = decisionOn m .refusal .number
+unfoldable pub decisionRefusal : List ℕ → Refusal
+decisionRefusal m = decisionOn m .refusal
 
--- 'for an accepted type 1 it also prints the server decision': n is the log's number for the message
+-- an answer by its number and place
+abbrev pub answerOf : Refusal → Column
+answerOf r = Answer (r .number) (r .place)
+
+-- 'for an accepted type 1 it also prints the server decision'; 'The hello column is the decision's number', and order 9's place beside
+-- it. n is the log's number for the message.
 unfoldable pub helloColumn : ℕ → List ℕ → Column
-helloColumn n m = pick (eqb n 0 && eqb (kindOf m) 1) (Number (decisionNumber m)) Nothing
+helloColumn n m = pick (eqb n 0 && eqb (kindOf m) 1) (answerOf (decisionRefusal m)) Nothing
 
 -- order 6: '`loglist` gives a secret of 48 zero bytes'
 abbrev pub zeroSecret : List ℕ
@@ -52,13 +58,17 @@ zeroSecret = replicate 48 0
 unfoldable pub logNumber : History → List ℕ → ℕ
 logNumber h m = pick (isFinished m) (finishNumber h zeroSecret m) (acceptNumber h m false)
 
+-- and its answer: the place is that where the message broke
+unfoldable pub logRefusal : History → List ℕ → Refusal
+logRefusal h m = refusalAt (logNumber h m) (brokenAt m)
+
 -- 'A refused message is passed over and the next one fed.'
 unfoldable pub logAfter : History → List ℕ → History
 logAfter h m = pick (isFinished m) (afterFinish h zeroSecret m) (afterAccept h m false)
 
 -- the line of message i
 unfoldable pub lineFor : ℕ → History → List ℕ → List ℕ
-lineFor i h m = printed i (kindColumn m) (logNumber h m) (helloColumn (logNumber h m) m)
+lineFor i h m = printed i (kindColumn m) (answerOf (logRefusal h m)) (helloColumn (logNumber h m) m)
 
 -- the lines of the messages from number i on
 unfoldable pub lines : ℕ → History → List (List ℕ) → List ℕ

@@ -8,11 +8,13 @@ use Rattle.log.specs.Stands.{Stands}
 use Rattle.log.specs.declared.state.Log.{Log}
 use Rattle.log.specs.declared.answers.Accepted.{Accepted}
 use Rattle.listing.specs.Texts.{lineOf}
-use Rattle.listing.specs.Listing.{lineFor, logNumber, logAfter}
+use Rattle.listing.specs.Listing.{lineFor, logRefusal, logAfter}
 use Rattle.listing.specs.declared.feed.Fed.{Fed}
 
 pub record Takes (log : Log) (m : List ℕ) (r : Accepted) : Type 0 where
-  pub number : (h : History) → Stands log h → r .refusal .number ≡ logNumber h m
+  -- whatever log is passed, a place in the log column has one digit
+  pub short : r .refusal .place ≤ 3
+  pub refusal : (h : History) → Stands log h → r .refusal ≡ logRefusal h m
   pub stands : (h : History) → Stands log h → Stands (r .log) (logAfter h m)
 
 pub record Feeds (log : Log) (i : ℕ) (m : List ℕ) (r : Fed) : Type 0 where

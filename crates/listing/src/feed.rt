@@ -7,9 +7,14 @@ use decision::decide_server;
 use log::Accepted;
 use log::Log;
 use message::byte;
+use refusal::Refusal;
 use sessions::Table;
 ghost use mathlib.Core.Path.{_≡_};
-ghost use Rattle.listing.specs.Listing.{kindColumn, decisionNumber, helloColumn};
+ghost use Prim.Native.Nat.{_+_, _≤_, _<_};
+ghost use lib.ListN.{length};
+ghost use Rattle.listing.specs.Digits.{decimal};
+ghost use Rattle.listing.specs.Texts.{columnOf};
+ghost use Rattle.listing.specs.Listing.{kindColumn, decisionRefusal, answerOf, helloColumn};
 ghost use Rattle.listing.specs.Steps.{Takes, Feeds};
 
 const CLIENT_HELLO: usize = 1;
@@ -25,7 +30,7 @@ pub(crate) struct Fed {
 
 // The type of a message; an empty one has none.
 fn kind(message: &[u8]) -> Column
-    ensures { λ r. ⌜ r ≡ kindColumn (now (message .entry)) ⌝ }
+    ensures { λ r. ⌜ (r ≡ kindColumn (now (message .entry))) × (length (columnOf r) ≤ 3) ⌝ }
 {
     if message.len() == 0 {
         return Column::Nothing;
@@ -34,8 +39,8 @@ fn kind(message: &[u8]) -> Column
 }
 
 // The server's decision on a ClientHello from nobody known: an empty table, a fresh connection, every switch off.
-fn decide(message: &[u8]) -> u8
-    ensures { λ r. ⌜ r ≡ decisionNumber (now (message .entry)) ⌝ }
+fn decide(message: &[u8]) -> Refusal
+    ensures { λ r. ⌜ r ≡ decisionRefusal (now (message .entry)) ⌝ }
 {
     let table = Table::fresh();
     let connection = Connection {
@@ -52,12 +57,20 @@ fn decide(message: &[u8]) -> u8
     };
     let mut reply = [0u8; 35];
     let decision = decide_server(message, AXLE, table, connection, switches, &mut reply);
-    decision.refusal.number
+    decision.refusal
+}
+
+// A refusal's number and place; a place in a message fits in 16 bits.
+fn answer(refusal: Refusal) -> Column
+    requires { ⌜ refusal .place < 65536 ⌝ }
+    ensures { λ r. ⌜ (r ≡ answerOf refusal) × (length (columnOf r) ≤ 2 + length (decimal (refusal .place))) ⌝ }
+{
+    Column::Answer(refusal.number, refusal.place as u16)
 }
 
 // What the decision answers to a ClientHello that the log accepted.
 fn hello(number: u8, message: &[u8]) -> Column
-    ensures { λ r. ⌜ r ≡ helloColumn number (now (message .entry)) ⌝ }
+    ensures { λ r. ⌜ (r ≡ helloColumn number (now (message .entry))) × (length (columnOf r) ≤ 7) ⌝ }
 {
     if number != 0 {
         return Column::Nothing;
@@ -65,7 +78,7 @@ fn hello(number: u8, message: &[u8]) -> Column
     if byte(message, 0) != CLIENT_HELLO {
         return Column::Nothing;
     }
-    Column::Number(decide(message))
+    answer(decide(message))
 }
 
 // What the log answers to a message: a Finished is checked under a secret of zeros, and all others are accepted.
@@ -84,8 +97,9 @@ pub(crate) fn feed(log: Log, number: u8, message: &[u8]) -> Fed
     ensures { λ r. ⌜ Feeds log number (now (message .entry)) r ⌝ }
 {
     let accepted = take(log, message);
-    let answer = accepted.refusal.number;
-    let line = Line::of(number, kind(message), answer, hello(answer, message));
+    let refusal = accepted.refusal;
+    let decided = hello(refusal.number, message);
+    let line = Line::of(number, kind(message), answer(refusal), decided);
     let next = accepted.log;
     Fed { line, log: next }
 }

@@ -1,19 +1,21 @@
-// One line, built from the left.
+// One line, built from the left. Each function adds a text that the line has room for.
 ghost use mathlib.Core.Path.{_≡_};
-ghost use mathlib.Core.List.{[], _∷_, _++_};
+ghost use mathlib.Core.List.{[], _∷_};
 ghost use Prim.Native.Nat.{_+_, _≤_, _<_};
+ghost use lib.ListN.{length};
 ghost use Rattle.listing.specs.Digits.{decimal};
-ghost use Rattle.listing.specs.Texts.{columnOf, printed, lineOf};
+ghost use Rattle.listing.specs.Texts.{answered, columnOf, printed, lineOf, Adds};
 
 pub(crate) struct Line {
     pub bytes: [u8; 16],
     pub length: usize,
 }
 
-// What stands in a column: a number, or nothing, printed as a dash.
+// What stands in a column: nothing, printed as a dash; a number; or an answer, a number with its place.
 pub(crate) enum Column {
     Nothing,
     Number(u8),
+    Answer(u8, u16),
 }
 
 impl Line {
@@ -28,7 +30,7 @@ impl Line {
 
     fn byte(self, byte: u8) -> Line
         requires { ⌜ self .length < 16 ⌝ }
-        ensures { λ r. ⌜ (lineOf r ≡ lineOf self ++ (byte ∷ [])) × (r .length ≡ self .length + 1) ⌝ }
+        ensures { λ r. ⌜ Adds self (byte ∷ []) r ⌝ }
     {
         let mut line = self;
         let at = self.length;
@@ -37,39 +39,79 @@ impl Line {
         line
     }
 
-    // The number in decimal.
-    fn number(self, n: u8) -> Line
-        requires { ⌜ self .length + 3 ≤ 16 ⌝ }
-        ensures { λ r. ⌜ (lineOf r ≡ lineOf self ++ decimal n) × (r .length ≤ self .length + 3) ⌝ }
+    fn digit(self, n: u16) -> Line
+        requires { ⌜ (self .length < 16) × (n < 10) ⌝ }
+        ensures { λ r. ⌜ Adds self ((48 + n) ∷ []) r ⌝ }
+    {
+        self.byte(b'0' + n as u8)
+    }
+
+    // A number of one, two or three digits.
+    fn short(self, n: u16) -> Line
+        requires { ⌜ (self .length + length (decimal n) ≤ 16) × (n < 1000) ⌝ }
+        ensures { λ r. ⌜ Adds self (decimal n) r ⌝ }
     {
         if n < 10 {
-            return self.byte(b'0' + n);
+            return self.digit(n);
         }
         if n < 100 {
-            return self.byte(b'0' + n / 10).byte(b'0' + n % 10);
+            return self.digit(n / 10).digit(n % 10);
         }
-        self.byte(b'0' + n / 100)
-            .byte(b'0' + n / 10 % 10)
-            .byte(b'0' + n % 10)
+        self.digit(n / 100).digit(n / 10 % 10).digit(n % 10)
+    }
+
+    // Any number: what is left of one of four or five digits stands before its last three.
+    fn number(self, n: u16) -> Line
+        requires { ⌜ self .length + length (decimal n) ≤ 16 ⌝ }
+        ensures { λ r. ⌜ Adds self (decimal n) r ⌝ }
+    {
+        if n < 1000 {
+            return self.short(n);
+        }
+        self.short(n / 1000)
+            .digit(n / 100 % 10)
+            .digit(n / 10 % 10)
+            .digit(n % 10)
+    }
+
+    // The number, and with 1 and 2 a colon and the place.
+    fn answer(self, n: u8, place: u16) -> Line
+        requires { ⌜ self .length + length (answered n place) ≤ 16 ⌝ }
+        ensures { λ r. ⌜ Adds self (answered n place) r ⌝ }
+    {
+        let line = self.number(n as u16);
+        match n {
+            1 | 2 => line.byte(b':').number(place),
+            _ => line,
+        }
     }
 
     fn column(self, column: Column) -> Line
-        requires { ⌜ self .length + 3 ≤ 16 ⌝ }
-        ensures { λ r. ⌜ (lineOf r ≡ lineOf self ++ columnOf column) × (r .length ≤ self .length + 3) ⌝ }
+        requires { ⌜ self .length + length (columnOf column) ≤ 16 ⌝ }
+        ensures { λ r. ⌜ Adds self (columnOf column) r ⌝ }
     {
         match column {
             Column::Nothing => self.byte(b'-'),
-            Column::Number(n) => self.number(n),
+            Column::Number(n) => self.number(n as u16),
+            Column::Answer(n, place) => self.answer(n, place),
         }
     }
 
+    // A line that begins with a message's number.
+    fn numbered(number: u8) -> Line
+        ensures { λ r. ⌜ (lineOf r ≡ decimal number) × (r .length ≤ 3) ⌝ }
+    {
+        Line::empty().number(number as u16)
+    }
+
     // Four columns with a space between them, and the end of the line.
-    pub(crate) fn of(number: u8, kind: Column, log: u8, hello: Column) -> Line
+    pub(crate) fn of(number: u8, kind: Column, log: Column, hello: Column) -> Line
+        requires { ⌜ length (columnOf kind) + length (columnOf log) + length (columnOf hello) ≤ 9 ⌝ }
         ensures { λ r. ⌜ (lineOf r ≡ printed number kind log hello) × (r .length ≤ 16) ⌝ }
     {
-        let first = Line::empty().number(number).byte(b' ');
+        let first = Line::numbered(number).byte(b' ');
         let second = first.column(kind).byte(b' ');
-        let third = second.number(log).byte(b' ');
+        let third = second.column(log).byte(b' ');
         third.column(hello).byte(b'\n')
     }
 }

@@ -11,7 +11,7 @@ use borrow.Author.Tests.{ne-eqb}
 use Rattle.seqs.specs.Pick.{pick}
 use Rattle.refusal.specs.First.{firstOf}
 use Rattle.refusal.proofs.First.{first-front}
-use Rattle.refusal.specs.Table.{refusalOf}
+use Rattle.refusal.specs.Table.{refusalOf, refusalAt}
 use Rattle.message.specs.Frame.{kindOf, overlong, misstated}
 use Rattle.sha256.specs.Sha256.{sha256}
 use Rattle.sha256.specs.Running.{Running, most}
@@ -20,16 +20,16 @@ use Rattle.log.specs.Order.{Place, turns, look, isDue}
 use Rattle.log.specs.History.{History, tells, placeOf, hashed}
 use Rattle.log.specs.History.History.{accepted}
 use Rattle.log.specs.History.Beside.{told}
-use Rattle.log.specs.Calls.{misshapen, shapeNumber, outOfTurn, isFinished, acceptNumber, afterAccept}
+use Rattle.log.specs.Calls.{misshapen, shapeNumber, brokenAt, outOfTurn, isFinished, acceptNumber, afterAccept}
 use Rattle.log.specs.Finish.{Compared}
 use Rattle.log.specs.Stands.{Stands, number}
-use Rattle.refusal.specs.Listed.{listed, numbered}
+use Rattle.refusal.specs.Listed.{anywhere, numbered-at, row-at, listed-at}
+use Rattle.refusal.specs.declared.Refusal.{Refusal}
 use Rattle.log.specs.Promise.{Accepts}
 use Rattle.log.specs.Steps.{Judges, TurnOf, LogAfter}
 use Rattle.log.specs.declared.shape.Judged.{Judged}
 use Rattle.log.specs.declared.state.Log.{Log}
 use Rattle.log.specs.declared.state.Turn.{Turn}
-use Rattle.log.specs.declared.answers.Accepted.{Accepted}
 use Rattle.log.proofs.Turns.{due-number}
 use Rattle.log.proofs.Messages.{Fine, fine, shape-most}
 use Rattle.log.proofs.Standing.{far, request-stands, taking-stands}
@@ -81,39 +81,57 @@ module _ (m : List ℕ) (resumes : Bool) (h : History) where
 
 -- the ways out of `turn`
 module _ (log : Log) (m : List ℕ) (resumes : Bool) where
-  refused-turn : (n k p : ℕ) → n ≤ 11 → (n ≡ 0 → ⊥) → (kindOf m ≡ 20 → (h : History) → acceptNumber h m resumes ≡ n)
-      → ((h : History) → Stands log h → acceptNumber h m resumes ≡ n) → TurnOf log m resumes (record { number = n; kind = k; place = p })
-  refused-turn n k p l z e f =
-      record { within = l; number = f; fed = e; other = λ q. absurd (z q); request = λ q. absurd (z q); in-turn = λ q. absurd (z q) }
+  refused-turn : (n k p : ℕ) (r : Refusal) → r ≡ refusalAt n (brokenAt m) → n ≤ 11 → (n ≡ 0 → ⊥)
+      → (kindOf m ≡ 20 → (h : History) → acceptNumber h m resumes ≡ n) → ((h : History) → Stands log h → acceptNumber h m resumes ≡ n)
+      → TurnOf log m resumes (record { refusal = r; kind = k; place = p })
+  refused-turn n k p r d l z e f =
+      let i : r .number ≡ n = numbered-at n (brokenAt m) r d in
+      record {
+        within = omega (arith, i, l);
+        placed = row-at n (brokenAt m) r d;
+        number = λ h s. f h s ∙ sym i;
+        fed = λ x h. e x h ∙ sym i;
+        other = λ q. absurd (z (sym i ∙ q));
+        request = λ q. absurd (z (sym i ∙ q));
+        in-turn = λ q. absurd (z (sym i ∙ q));
+      }
 
   module _ (j : Judged) (jd : Judges m j) where
-    pub shape-turn : (j .number ≡ 0 → ⊥) → TurnOf log m resumes (record { number = j .number; kind = j .kind; place = 0 })
-    shape-turn z =
-        let n : (h : History) → acceptNumber h m resumes ≡ j .number = λ h. accept-shape m resumes h (λ q. z (jd .number ∙ q)) ∙ sym (jd .number) in
-        refused-turn (j .number) (j .kind) 0 (omega (arith, jd .number, shape-most m)) z (λ _. n) (λ h _. n h)
+    shape : j .refusal .number ≡ shapeNumber m
+    shape = numbered-at (shapeNumber m) (brokenAt m) (j .refusal) (jd .refusal)
 
-    module _ (z : j .number ≡ 0) where
+    pub shape-turn : (j .refusal .number ≡ 0 → ⊥) → TurnOf log m resumes (record { refusal = j .refusal; kind = j .kind; place = 0 })
+    shape-turn z =
+        let q : shapeNumber m ≡ 0 → ⊥ = λ e. z (shape ∙ e) in
+        refused-turn (shapeNumber m) (j .kind) 0 (j .refusal) (jd .refusal) (omega (arith, shape-most m)) q
+        (λ _ h. accept-shape m resumes h q) (λ h _. accept-shape m resumes h q)
+
+    module _ (z : j .refusal .number ≡ 0) where
       well : Fine m
-      well = fine m (sym (jd .number) ∙ z)
+      well = fine m (sym shape ∙ z)
 
       kind : j .kind ≡ kindOf m
       kind = jd .kind z
 
-      pub request-turn : j .kind ≡ 0 → TurnOf log m resumes (record { number = 0; kind = j .kind; place = 0 })
+      own : j .refusal ≡ refusalAt (j .refusal .number) (brokenAt m)
+      own = row-at (shapeNumber m) (brokenAt m) (j .refusal) (jd .refusal)
+
+      pub request-turn : j .kind ≡ 0 → TurnOf log m resumes (record { refusal = j .refusal; kind = j .kind; place = 0 })
       request-turn k =
           record {
-            within = omega arith;
-            number = λ h s. accept-request m resumes h well (sym kind ∙ k);
+            within = omega (arith, z);
+            placed = own;
+            number = λ h s. accept-request m resumes h well (sym kind ∙ k) ∙ sym z;
             fed = λ x. absurd (omega (arith, kind, k, x));
             other = λ _ x. omega (arith, kind, k, x);
             request = λ _ q. sym kind ∙ q;
             in-turn = λ _ n. absurd (n k);
           }
 
-      pub finished-turn : j .kind ≡ 20 → TurnOf log m resumes (record { number = 7; kind = j .kind; place = 0 })
-      finished-turn k =
+      pub finished-turn : (r : Refusal) → r ≡ refusalOf 7 → j .kind ≡ 20 → TurnOf log m resumes (record { refusal = r; kind = j .kind; place = 0 })
+      finished-turn r d k =
           let n : (h : History) → acceptNumber h m resumes ≡ 7 = λ h. accept-finished m resumes h well (sym kind ∙ k) in
-          refused-turn 7 (j .kind) 0 (omega arith) (λ x. omega arith) (λ _. n) (λ h _. n h)
+          refused-turn 7 (j .kind) 0 r (d ∙ anywhere 7 (brokenAt m) refl) (omega arith) (λ x. omega arith) (λ _. n) (λ h _. n h)
 
       module _ (k : j .kind ≡ 0 → ⊥) (g : j .kind ≡ 20 → ⊥) (q : ℕ)
           (e : (p : Place) → log .place ≡ number p → q ≡ number (look (j .kind) (turns resumes p))) where
@@ -126,16 +144,18 @@ module _ (log : Log) (m : List ℕ) (resumes : Bool) where
         answered : (h : History) → Stands log h → (b : Bool) → not (eqb q 17) ≡ b → acceptNumber h m resumes ≡ pick b 0 7
         answered h s b x = accept-by m resumes h well (λ y. k (kind ∙ y)) (λ y. g (kind ∙ y)) b (there h s ∙ x)
 
-        pub out-turn : q ≡ 17 → TurnOf log m resumes (record { number = 7; kind = j .kind; place = q })
-        out-turn n =
-            refused-turn 7 (j .kind) q (omega arith) (λ x. omega arith) (λ x. absurd (g (kind ∙ x))) (λ h s. answered h s false (rw n))
+        pub out-turn : (r : Refusal) → r ≡ refusalOf 7 → q ≡ 17 → TurnOf log m resumes (record { refusal = r; kind = j .kind; place = q })
+        out-turn r d n =
+            refused-turn 7 (j .kind) q r (d ∙ anywhere 7 (brokenAt m) refl) (omega arith) (λ x. omega arith)
+            (λ x. absurd (g (kind ∙ x))) (λ h s. answered h s false (rw n))
 
-        pub other-turn : (q ≡ 17 → ⊥) → TurnOf log m resumes (record { number = 0; kind = j .kind; place = q })
+        pub other-turn : (q ≡ 17 → ⊥) → TurnOf log m resumes (record { refusal = j .refusal; kind = j .kind; place = q })
         unfolding tells
         other-turn n =
             record {
-              within = omega arith;
-              number = λ h s. answered h s true (rw (ne-eqb q 17 n));
+              within = omega (arith, z);
+              placed = own;
+              number = λ h s. answered h s true (rw (ne-eqb q 17 n)) ∙ sym z;
               fed = λ x. absurd (g (kind ∙ x));
               other = λ _ x. g (kind ∙ x);
               request = λ _ x. absurd (k x);
@@ -144,34 +164,33 @@ module _ (log : Log) (m : List ℕ) (resumes : Bool) where
                   record { kind = kind; hashed = k; place = leads-to h s; due = there h s ∙ (rw (ne-eqb q 17 n)); size = well .longest };
             }
 
--- the ways out of the call
+-- the ways out of the call: it hands on the refusal of `turn`
 module _ (log : Log) (m : List ℕ) (resumes : Bool) (t : Turn) (o : TurnOf log m resumes t) where
-  pub refused-accepts : (r : Accepted) → r .refusal ≡ refusalOf (t .number) → r .log ≡ log → (t .number ≡ 0 → ⊥) → Accepts log m resumes r
-  unfolding afterAccept
-  refused-accepts r e k z =
+  answers : (left : Log) → ((t .refusal .number ≡ 0 → ⊥) → left ≡ log) → ((h : History) → Stands log h → Stands left (afterAccept h m resumes))
+      → Accepts log m resumes (record { refusal = t .refusal; log = left })
+  answers left k f =
       record {
-        listed = listed (t .number) (r .refusal) e (o .within);
-        kept = λ _. k;
-        fed = λ f h. e ∙ ap refusalOf (sym (o .fed f h));
-        refusal = λ h s. e ∙ ap refusalOf (sym (o .number h s));
-        stands = λ h s. rw (k, o .number h s, ne-eqb (t .number) 0 z) s;
+        listed = listed-at (t .refusal .number) (brokenAt m) (t .refusal) (o .placed) (o .within);
+        placed = o .placed;
+        kept = k;
+        fed = λ x h. o .placed ∙ ap (λ (n : ℕ). refusalAt n (brokenAt m)) (sym (o .fed x h));
+        refusal = λ h s. o .placed ∙ ap (λ (n : ℕ). refusalAt n (brokenAt m)) (sym (o .number h s));
+        stands = f;
       }
 
-  taken-by : (r : Accepted) → r .refusal ≡ refusalOf (t .number) → t .number ≡ 0
-      → ((h : History) → Stands log h → Stands (r .log) (accepted h m (told resumes))) → Accepts log m resumes r
+  pub refused-accepts : (t .refusal .number ≡ 0 → ⊥) → Accepts log m resumes (record { refusal = t .refusal; log = log })
   unfolding afterAccept
-  taken-by r e z f =
-      record {
-        listed = listed (t .number) (r .refusal) e (o .within);
-        kept = λ n. absurd (n (numbered (t .number) (r .refusal) e ∙ z));
-        fed = λ f h. e ∙ ap refusalOf (sym (o .fed f h));
-        refusal = λ h s. e ∙ ap refusalOf (sym (o .number h s));
-        stands = λ h s. rw (o .number h s, z) (f h s);
-      }
+  refused-accepts z = answers log (λ _. refl) (λ h s. rw (o .number h s, ne-eqb (t .refusal .number) 0 z) s)
 
-  pub request-accepts : (r : Accepted) → r .refusal ≡ refusalOf (t .number) → r .log ≡ log → t .number ≡ 0 → t .kind ≡ 0 → Accepts log m resumes r
-  request-accepts r e q z k = taken-by r e z (λ h s. rw q (request-stands log h m resumes s (o .request z k)))
+  module _ (z : t .refusal .number ≡ 0) where
+    taken-by : (left : Log) → ((h : History) → Stands log h → Stands left (accepted h m (told resumes)))
+        → Accepts log m resumes (record { refusal = t .refusal; log = left })
+    unfolding afterAccept
+    taken-by left f = answers left (λ n. absurd (n z)) (λ h s. rw (o .number h s, z) (f h s))
 
-  pub done-accepts : (r : Accepted) → r .refusal ≡ refusalOf (t .number) → t .number ≡ 0 → (t .kind ≡ 0 → ⊥)
-      → LogAfter log m (t .kind) (t .place) (r .log) → Accepts log m resumes r
-  done-accepts r e z k a = taken-by r e z (λ h s. a h resumes s (o .other z) (o .in-turn z k h s))
+    pub request-accepts : t .kind ≡ 0 → Accepts log m resumes (record { refusal = t .refusal; log = log })
+    request-accepts k = taken-by log (λ h s. request-stands log h m resumes s (o .request z k))
+
+    pub done-accepts : (left : Log) → (t .kind ≡ 0 → ⊥) → LogAfter log m (t .kind) (t .place) left
+        → Accepts log m resumes (record { refusal = t .refusal; log = left })
+    done-accepts left k a = taken-by left (λ h s. a h resumes s (o .other z) (o .in-turn z k h s))

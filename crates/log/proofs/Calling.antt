@@ -15,7 +15,7 @@ use Rattle.refusal.proofs.First.{first-zero}
 use Rattle.octets.specs.Same.{same}
 use Rattle.octets.specs.Equal.{same-true, same-refl}
 use Rattle.message.specs.Numbers.{byteAt, pairAt, tripleAt}
-use Rattle.message.specs.Frame.{kindOf, bodyOf, overlong, misstated}
+use Rattle.message.specs.Frame.{kindOf, bodyOf, overlong, cutOff, misstated}
 use Rattle.prf.proofs.Sha256.{sha256-lawful}
 use Rattle.prf.proofs.Lengths.{length-verify}
 use Rattle.log.specs.Order.{Place, turns, isDue, look, finishedDue}
@@ -155,7 +155,7 @@ module _ (resumes : Bool) (secret : List ℕ) (n : length secret ≡ 48) where
 
     -- a type that is in turn, but 20: a message without a body will do
     other : (kind ≡ 20 → ⊥) → Goes resumes secret h kind
-    unfolding numberOf after afterAccept tells Under firstOf shapeNumber overlong misstated misshapen wrongBody kindOf bodyOf byteAt pairAt tripleAt
+    unfolding numberOf after afterAccept tells Under firstOf shapeNumber overlong misstated cutOff misshapen wrongBody kindOf bodyOf byteAt pairAt tripleAt
     other k =
         let m : List ℕ = kind ∷ 0 ∷ 0 ∷ 0 ∷ [] in
         let f : shapeNumber m ≡ 0 = rw (ne-eqb kind 0 hashed-type, ne-eqb kind 20 k) in
@@ -164,7 +164,7 @@ module _ (resumes : Bool) (secret : List ℕ) (n : length secret ≡ 48) where
 
     -- a Finished with what is expected of it
     finished : kind ≡ 20 → Goes resumes secret h kind
-    unfolding numberOf after afterFinish tells Under firstOf shapeNumber overlong misstated misshapen wrongBody isFinished finishedDue kindOf bodyOf byteAt pairAt tripleAt
+    unfolding numberOf after afterFinish tells Under firstOf shapeNumber overlong misstated cutOff misshapen wrongBody isFinished finishedDue kindOf bodyOf byteAt pairAt tripleAt
     finished k =
         let m : List ℕ = 20 ∷ 0 ∷ 0 ∷ 12 ∷ expectedValue h secret in
         let t = told-by resumes false (placeOf h) kind (λ x. omega (arith, k, x)) in

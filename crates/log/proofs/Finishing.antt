@@ -1,6 +1,6 @@
 -- A Finished, and what is expected of it: the number at each way out, and what is promised there.
 -- Assumes nothing.
-use mathlib.Core.Path.{_≡_, refl, sym, _∙_, ap}
+use mathlib.Core.Path.{_≡_, refl, sym, _∙_, ap, subst}
 use mathlib.Core.Bool.{Bool, true, false, not, _&&_}
 use mathlib.Core.List.{List, [], _∷_, _++_}
 use Prim.Native.Nat.{ℕ, _+_, _≤_}
@@ -10,10 +10,11 @@ use borrow.Author.Tests.{eq-eqb, ne-eqb, not-true, not-false}
 use Rattle.seqs.specs.Pick.{pick}
 use Rattle.refusal.specs.First.{firstOf}
 use Rattle.refusal.proofs.First.{first-passed, first-front}
-use Rattle.refusal.specs.Table.{refusalOf}
-use Rattle.refusal.specs.Listed.{listed, numbered}
+use Rattle.refusal.specs.Table.{refusalOf, refusalAt}
+use Rattle.refusal.specs.Listed.{anywhere, listed, numbered, numbered-at, row-at, listed-at}
 use Rattle.refusal.specs.declared.Refusal.{Refusal}
 use Rattle.octets.specs.Same.{same}
+use Rattle.seqs.specs.Cases.{by-test, not-both}
 use Rattle.octets.specs.Equal.{same-true}
 use Rattle.message.specs.Frame.{kindOf, bodyOf, overlong, misstated}
 use Rattle.sha256.specs.Sha256.{sha256}
@@ -24,11 +25,11 @@ use Rattle.prf.specs.declared.secrets.Verified.{Verified}
 use Rattle.log.specs.Order.{Place, turns, look, finishedDue}
 use Rattle.log.specs.History.{History, tells, placeOf, hashed, fromServer, isFrom}
 use Rattle.log.specs.History.Beside.{under}
-use Rattle.log.specs.Calls.{misshapen, shapeNumber, isFinished}
+use Rattle.log.specs.Calls.{misshapen, shapeNumber, brokenAt, isFinished}
 use Rattle.log.specs.Finish.{expectedValue, expectedNumber, expectedOf, finishNumber, afterFinish, Compared}
 use Rattle.log.specs.Stands.{Stands, Placed, number}
 use Rattle.log.specs.Promise.{Finishes, Expects}
-use Rattle.log.specs.Steps.{Judges, InTurn, Asks, Takes}
+use Rattle.log.specs.Steps.{Judges, InTurn, Asks, Takes, Compares}
 use Rattle.log.specs.declared.shape.Judged.{Judged}
 use Rattle.log.specs.declared.state.Log.{Log}
 use Rattle.log.specs.declared.answers.Accepted.{Accepted}
@@ -104,48 +105,65 @@ module _ (secret m : List ℕ) (h : History) where
 
 -- the ways out of what is asked first
 module _ (log : Log) (secret m : List ℕ) where
-  asks-refused : (n : ℕ) → n ≤ 11 → (n ≡ 0 → ⊥) → ((h : History) → Stands log h → finishNumber h secret m ≡ n) → Asks log secret m n
-  asks-refused n l z f =
-      record { within = l; refused = λ _. f; sized = λ e. absurd (z e); shape = λ e. absurd (z e); kind = λ e. absurd (z e); due = λ e. absurd (z e) }
+  asks-refused : (n : ℕ) (r : Refusal) → r ≡ refusalAt n (brokenAt m) → n ≤ 11 → (n ≡ 0 → ⊥)
+      → ((h : History) → Stands log h → finishNumber h secret m ≡ n) → Asks log secret m r
+  asks-refused n r d l z f =
+      let i : r .number ≡ n = numbered-at n (brokenAt m) r d in
+      record {
+        within = omega (arith, i, l);
+        placed = row-at n (brokenAt m) r d;
+        refused = λ _ h s. f h s ∙ sym i;
+        sized = λ e. absurd (z (sym i ∙ e));
+        shape = λ e. absurd (z (sym i ∙ e));
+        kind = λ e. absurd (z (sym i ∙ e));
+        due = λ e. absurd (z (sym i ∙ e));
+      }
 
-  pub secret-asks : (length secret ≡ 48 → ⊥) → Asks log secret m 10
-  secret-asks n = asks-refused 10 (omega arith) (λ x. omega arith) (λ h s. finish-secret secret m h n)
+  pub secret-asks : (length secret ≡ 48 → ⊥) → (r : Refusal) → r ≡ refusalOf 10 → Asks log secret m r
+  secret-asks n r d =
+      asks-refused 10 r (d ∙ anywhere 10 (brokenAt m) refl) (omega arith) (λ x. omega arith) (λ h s. finish-secret secret m h n)
 
   module _ (n : length secret ≡ 48) (j : Judged) (jd : Judges m j) where
-    pub shape-asks : (j .number ≡ 0 → ⊥) → Asks log secret m (j .number)
-    shape-asks z =
-        asks-refused (j .number) (omega (arith, jd .number, shape-most m)) z
-        (λ h s. finish-shape secret m h n (λ q. z (jd .number ∙ q)) ∙ sym (jd .number))
+    judged : j .refusal .number ≡ shapeNumber m
+    judged = numbered-at (shapeNumber m) (brokenAt m) (j .refusal) (jd .refusal)
 
-    module _ (z : j .number ≡ 0) where
+    pub shape-asks : (j .refusal .number ≡ 0 → ⊥) → Asks log secret m (j .refusal)
+    shape-asks z =
+        let q : shapeNumber m ≡ 0 → ⊥ = λ e. z (judged ∙ e) in
+        asks-refused (shapeNumber m) (j .refusal) (jd .refusal) (omega (arith, shape-most m)) q (λ h s. finish-shape secret m h n q)
+
+    module _ (z : j .refusal .number ≡ 0) where
       well : Fine m
-      well = fine m (sym (jd .number) ∙ z)
+      well = fine m (sym judged ∙ z)
 
       kind : j .kind ≡ kindOf m
       kind = jd .kind z
 
-      pub kind-asks : (j .kind ≡ 20 → ⊥) → Asks log secret m 7
+      -- the number 7 of both
+      seven : (r : Refusal) → r ≡ refusalOf 7 → ((h : History) → Stands log h → (isFinished m && finishedDue (placeOf h)) ≡ false) → Asks log secret m r
+      seven r d f =
+          asks-refused 7 r (d ∙ anywhere 7 (brokenAt m) refl) (omega arith) (λ x. omega arith)
+          (λ h s. finish-due secret m h n well false (same (bodyOf m) (expectedValue h secret)) (f h s) refl)
+
+      pub kind-asks : (j .kind ≡ 20 → ⊥) → (r : Refusal) → r ≡ refusalOf 7 → Asks log secret m r
       unfolding isFinished
-      kind-asks k =
-          asks-refused 7 (omega arith) (λ x. omega arith)
-          (λ h s. finish-due secret m h n well false (same (bodyOf m) (expectedValue h secret)) (rw (← kind, ne-eqb (j .kind) 20 k)) refl)
+      kind-asks k r d = seven r d (λ h s. rw (← kind, ne-eqb (j .kind) 20 k))
 
-      module _ (k : j .kind ≡ 20) (b : Bool) (d : Due log b) where
-        pub due-asks : not b ≡ true → Asks log secret m 7
+      module _ (k : j .kind ≡ 20) (b : Bool) (w : Due log b) where
+        pub due-asks : not b ≡ true → (r : Refusal) → r ≡ refusalOf 7 → Asks log secret m r
         unfolding isFinished
-        due-asks x =
-            asks-refused 7 (omega arith) (λ y. omega arith)
-            (λ h s. finish-due secret m h n well false (same (bodyOf m) (expectedValue h secret)) (rw (eq-eqb (kindOf m) 20 (sym kind ∙ k), due-by log h b s d) (not-true b x)) refl)
+        due-asks x r d = seven r d (λ h s. rw (eq-eqb (kindOf m) 20 (sym kind ∙ k), due-by log h b s w) (not-true b x))
 
-        pub done-asks : not b ≡ false → Asks log secret m 0
+        pub done-asks : not b ≡ false → Asks log secret m (j .refusal)
         done-asks x =
             record {
-              within = omega arith;
-              refused = λ y. absurd (y refl);
+              within = omega (arith, z);
+              placed = row-at (shapeNumber m) (brokenAt m) (j .refusal) (jd .refusal);
+              refused = λ y. absurd (y z);
               sized = λ _. n;
-              shape = λ _. sym (jd .number) ∙ z;
+              shape = λ _. sym judged ∙ z;
               kind = λ _. sym kind ∙ k;
-              due = λ _ h s. due-by log h b s d ∙ not-false b x;
+              due = λ _ h s. due-by log h b s w ∙ not-false b x;
             }
 
 -- the log that has taken a Finished: the hash has taken the message, and the value stands with its side
@@ -177,44 +195,63 @@ module _ (log : Log) (m value : List ℕ) (hash : Hash)
   pub takes-client : b ≡ false → Takes log m value (record { hash = hash; place = q; session = log .session; client = value; server = log .server })
   takes-client x = takes-by value (log .server) (rw x) (rw x)
 
--- the ways out of the joined call
-module _ (log : Log) (secret m : List ℕ) (n : ℕ) (o : Asks log secret m n) where
-  refused-by : (k : ℕ) (r : Accepted) → k ≤ 11 → (k ≡ 0 → ⊥) → r .refusal ≡ refusalOf k → r .log ≡ log
-      → ((h : History) → Stands log h → finishNumber h secret m ≡ k) → Finishes log secret m r
+-- the ways out of the joined call: it hands on the refusal of `ask`, or refuses by 8
+module _ (log : Log) (secret m : List ℕ) (a : Refusal) (o : Asks log secret m a) where
+  refused-by : (n : ℕ) (r : Refusal) → r ≡ refusalAt n (brokenAt m) → n ≤ 11 → (n ≡ 0 → ⊥)
+      → ((h : History) → Stands log h → finishNumber h secret m ≡ n) → Finishes log secret m (record { refusal = r; log = log })
   unfolding afterFinish
-  refused-by k r l z e q f =
+  refused-by n r d l z f =
       record {
-        listed = listed k (r .refusal) e l;
-        kept = λ _. q;
-        taken = λ x. absurd (z (sym (numbered k (r .refusal) e) ∙ x));
-        refusal = λ h s. e ∙ ap refusalOf (sym (f h s));
-        stands = λ h s. rw (q, f h s, ne-eqb k 0 z) s;
+        listed = listed-at n (brokenAt m) r d l;
+        placed = row-at n (brokenAt m) r d;
+        kept = λ _. refl;
+        taken = λ x. absurd (z (sym (numbered-at n (brokenAt m) r d) ∙ x));
+        refusal = λ h s. d ∙ ap (λ (k : ℕ). refusalAt k (brokenAt m)) (sym (f h s));
+        stands = λ h s. rw (f h s, ne-eqb n 0 z) s;
       }
 
-  pub refused-finishes : (r : Accepted) → r .refusal ≡ refusalOf n → r .log ≡ log → (n ≡ 0 → ⊥) → Finishes log secret m r
-  refused-finishes r e q z = refused-by n r (o .within) z e q (o .refused z)
+  pub refused-finishes : (a .number ≡ 0 → ⊥) → Finishes log secret m (record { refusal = a; log = log })
+  refused-finishes z = refused-by (a .number) a (o .placed) (o .within) z (o .refused z)
 
-  module _ (z : n ≡ 0) (value : List ℕ) (v : (h : History) → Stands log h → value ≡ expectedValue h secret) (a : Bool) (w : a ≡ same (bodyOf m) value) where
-    number-by : (h : History) → Stands log h → finishNumber h secret m ≡ pick a 0 8
+  module _ (z : a .number ≡ 0) (value : List ℕ) (v : (h : History) → Stands log h → value ≡ expectedValue h secret) (r : Accepted) (w : Compares log m value r) where
+    number-by : (b : Bool) → same (bodyOf m) value ≡ b → (h : History) → Stands log h → finishNumber h secret m ≡ pick b 0 8
     unfolding isFinished
-    number-by h s =
-        finish-due secret m h (o .sized z) (fine m (o .shape z)) true a (rw (eq-eqb (kindOf m) 20 (o .kind z), o .due z h s)) (rw (← v h s) (sym w))
+    number-by b e h s =
+        finish-due secret m h (o .sized z) (fine m (o .shape z)) true b (rw (eq-eqb (kindOf m) 20 (o .kind z), o .due z h s)) (rw (← v h s) e)
 
-    pub differs-finishes : (r : Accepted) → a ≡ false → r .refusal ≡ refusalOf 8 → r .log ≡ log → Finishes log secret m r
-    differs-finishes r y e q = refused-by 8 r (omega arith) (λ x. omega arith) e q (λ h s. number-by h s ∙ (rw y))
+    differs-finishes : same (bodyOf m) value ≡ false → Finishes log secret m r
+    differs-finishes e =
+        let d = w .differs e in
+        let f = refused-by 8 (r .refusal) (d .0 ∙ anywhere 8 (brokenAt m) refl) (omega arith) (λ x. omega arith) (number-by false e) in
+        subst (λ (l : Log). Finishes log secret m (record { refusal = r .refusal; log = l })) (sym (d .1)) f
 
-    pub equal-finishes : (r : Accepted) → a ≡ true → r .refusal ≡ refusalOf n → Takes log m value (r .log) → Finishes log secret m r
+    equal-finishes : same (bodyOf m) value ≡ true → Finishes log secret m r
     unfolding afterFinish
-    equal-finishes r y e t =
-        let same-value : bodyOf m ≡ value = same-true (bodyOf m) value (sym w ∙ y) in
-        let f : r .refusal ≡ refusalOf 0 = e ∙ ap refusalOf z in
+    equal-finishes e =
+        let d = w .equal e in
+        let p : r .refusal ≡ refusalAt 0 (brokenAt m) = d .0 ∙ anywhere 0 (brokenAt m) refl in
+        let y : r .refusal .number ≡ 0 = numbered 0 (r .refusal) (d .0) in
+        let same-value : bodyOf m ≡ value = same-true (bodyOf m) value e in
+        let n = number-by true e in
         record {
-          listed = listed 0 (r .refusal) f (omega arith);
-          kept = λ x. absurd (x (numbered 0 (r .refusal) f));
+          listed = listed-at 0 (brokenAt m) (r .refusal) p (omega arith);
+          placed = row-at 0 (brokenAt m) (r .refusal) p;
+          kept = λ x. absurd (x y);
           taken = λ _. (o .kind z, o .sized z);
-          refusal = λ h s. f ∙ ap refusalOf (sym (number-by h s ∙ (rw y)));
+          refusal = λ h s. p ∙ ap (λ (k : ℕ). refusalAt k (brokenAt m)) (sym (n h s));
           stands =
               λ h s.
-              rw (number-by h s, y)
-              (t h secret s (fine m (o .shape z) .longest) (o .due z h s) (record { kind = o .kind z; sized = o .sized z; value = same-value ∙ v h s }) same-value);
+              rw (n h s)
+              (d .1 h secret s (fine m (o .shape z) .longest) (o .due z h s) (record { kind = o .kind z; sized = o .sized z; value = same-value ∙ v h s }) same-value);
         }
+
+    pub compared-finishes : Finishes log secret m r
+    compared-finishes = by-test (same (bodyOf m) value) equal-finishes differs-finishes
+
+-- what the value decides, as the code does
+module _ (log : Log) (m value : List ℕ) (b : Bool) (w : b ≡ same (bodyOf m) value) (x : Refusal) where
+  pub compares-differs : b ≡ false → x ≡ refusalOf 8 → Compares log m value (record { refusal = x; log = log })
+  compares-differs y d = record { differs = λ _. (d, refl); equal = λ e. not-both (w ∙ e) y }
+
+  pub compares-equal : b ≡ true → x ≡ refusalOf 0 → (left : Log) → Takes log m value left → Compares log m value (record { refusal = x; log = left })
+  compares-equal y d left t = record { differs = λ e. not-both y (w ∙ e); equal = λ _. (d, t) }

@@ -10,7 +10,7 @@ use Rattle.seqs.specs.Pick.{pick}
 use Rattle.seqs.specs.Flag.{bit}
 use Rattle.refusal.specs.First.{firstOf}
 use Rattle.refusal.specs.Table.{refusalOf}
-use Rattle.message.specs.Frame.{kindOf, bodyOf, overlong, misstated}
+use Rattle.message.specs.Frame.{kindOf, bodyOf, overlong, misstated, headerPlace}
 use Rattle.log.specs.Order.{turns, isDue}
 use Rattle.log.specs.History.{History, tells, placeOf, sessionHash, exchanged, resumed, complete, verifyDataOf}
 use Rattle.log.specs.History.Side.{client, server}
@@ -29,6 +29,11 @@ misshapen m = wrongBody (kindOf m) (length (bodyOf m))
 -- the message by itself, the same for every log
 unfoldable pub shapeNumber : List ℕ → ℕ
 shapeNumber m = firstOf ((10, overlong m) ∷ (1, misstated m) ∷ (1, misshapen m) ∷ [])
+
+-- Order 9: where it broke, the place beside every 1, the same for every log. Under 4 bytes 'A field cut off by the end of what holds it
+-- gives that end'; a length other than stated gives 1; 'A Finished or type 0 body of wrong length gives 1, the place of the length.'
+abbrev pub brokenAt : List ℕ → ℕ
+brokenAt m = headerPlace m
 
 -- type 0 'is accepted anywhere'; 'Anything else is 7.'
 unfoldable pub outOfTurn : History → List ℕ → Bool → Bool

@@ -4,14 +4,17 @@ use crate::answers::Expected;
 use crate::order;
 use crate::shape;
 use crate::state::Log;
+use refusal::Refusal;
+use refusal::refuse;
 ghost use mathlib.Core.Path.{_≡_};
+ghost use Prim.Native.Nat.{_≤_};
 ghost use lib.ListN.{length, replicate};
 ghost use Rattle.refusal.specs.Table.{refusalOf};
 ghost use Rattle.log.specs.History.{History};
 ghost use Rattle.log.specs.Finish.{expectedValue};
 ghost use Rattle.log.specs.Stands.{Stands};
 ghost use Rattle.log.specs.Promise.{Finishes, Expects};
-ghost use Rattle.log.specs.Steps.{Asks, Takes};
+ghost use Rattle.log.specs.Steps.{Asks, Takes, Compares};
 
 // How long a master secret is.
 const SECRET: usize = 48;
@@ -21,16 +24,24 @@ impl Log {
     pub fn finish(self, secret: &[u8], message: &[u8]) -> Accepted
         ensures { λ r. ⌜ Finishes self (now (secret .entry)) (now (message .entry)) r ⌝ }
     {
-        let number = self.finish_number(secret, message);
-        let refusal = refusal::refuse(number);
-        let mut r = Accepted { refusal, log: self };
-        if number != 0 {
-            return r;
+        let refusal = self.ask(secret, message);
+        if refusal.number != 0 {
+            return Accepted { refusal, log: self };
         }
         let value = self.expected_value(secret);
+        self.compare(message, value)
+    }
+
+    // A Finished that is due, by its value.
+    fn compare(self, message: &[u8], value: [u8; 12]) -> Accepted
+        requires { ⌜ 4 ≤ length (now message) ⌝ }
+        ensures { λ r. ⌜ Compares self (now (message .entry)) value r ⌝ }
+    {
+        let refusal = refuse(0);
+        let mut r = Accepted { refusal, log: self };
         let equal = shape::carries(message, value);
         if !equal {
-            r.refusal = refusal::refuse(8);
+            r.refusal = refuse(8);
             return r;
         }
         r.log = self.taking(message, value);
@@ -53,23 +64,24 @@ impl Log {
     }
 
     // What is asked before the value is computed.
-    fn finish_number(self, secret: &[u8], message: &[u8]) -> u8
+    fn ask(self, secret: &[u8], message: &[u8]) -> Refusal
         ensures { λ r. ⌜ Asks self (now (secret .entry)) (now (message .entry)) r ⌝ }
     {
         if secret.len() != SECRET {
-            return 10;
+            return refuse(10);
         }
         let judged = shape::judge(message);
-        if judged.number != 0 {
-            return judged.number;
+        let refusal = judged.refusal;
+        if refusal.number != 0 {
+            return refusal;
         }
         if judged.kind != shape::FINISHED {
-            return 7;
+            return refuse(7);
         }
         if !order::finished_due(self.place) {
-            return 7;
+            return refuse(7);
         }
-        0
+        refusal
     }
 
     // verify_data of the Finished that is due.
@@ -82,7 +94,7 @@ impl Log {
         if !order::finished_due(self.place) {
             return unexpected(7);
         }
-        let refusal = refusal::refuse(0);
+        let refusal = refuse(0);
         let value = self.expected_value(secret);
         Expected { refusal, value }
     }
@@ -100,7 +112,7 @@ impl Log {
 fn unexpected(number: u8) -> Expected
     ensures { λ r. ⌜ (r .refusal ≡ refusalOf number) × (r .value ≡ replicate 12 0) ⌝ }
 {
-    let refusal = refusal::refuse(number);
+    let refusal = refuse(number);
     Expected {
         refusal,
         value: [0; 12],

@@ -3,6 +3,8 @@ use crate::answers::Accepted;
 use crate::answers::SessionHash;
 use crate::order;
 use crate::shape;
+use refusal::Refusal;
+use refusal::refuse;
 use sha256::Hash;
 ghost use mathlib.Core.Path.{_≡_};
 ghost use mathlib.Core.Bool.{false, _&&_};
@@ -23,9 +25,9 @@ ghost use Rattle.log.specs.Stands.{Stands, Placed};
 ghost use Rattle.log.specs.Promise.{Accepts, Hashes};
 ghost use Rattle.log.specs.Steps.{TurnOf, LogAfter};
 
-// What is to be done with a message: the number of the refusal, or 0, its type, and the place that it leads to.
+// What is to be done with a message: the refusal, or number 0, its type, and the place of `order` that it leads to.
 struct Turn {
-    number: u8,
+    refusal: Refusal,
     kind: u8,
     place: u8,
 }
@@ -63,16 +65,15 @@ impl Log {
         ensures { λ r. ⌜ Accepts self (now (message .entry)) resumes r ⌝ }
     {
         let turn = self.turn(message, resumes);
-        let refusal = refusal::refuse(turn.number);
-        let mut r = Accepted { refusal, log: self };
-        if turn.number != 0 {
-            return r;
+        let refusal = turn.refusal;
+        if refusal.number != 0 {
+            return Accepted { refusal, log: self };
         }
         if turn.kind == shape::HELLO_REQUEST {
-            return r;
+            return Accepted { refusal, log: self };
         }
-        r.log = self.after(message, turn.kind, turn.place);
-        r
+        let log = self.after(message, turn.kind, turn.place);
+        Accepted { refusal, log }
     }
 
     // Is the message in turn, and where does it lead?
@@ -81,23 +82,24 @@ impl Log {
     {
         let judged = shape::judge(message);
         let kind = judged.kind;
-        if judged.number != 0 {
+        let refusal = judged.refusal;
+        if refusal.number != 0 {
             return Turn {
-                number: judged.number,
+                refusal,
                 kind,
                 place: 0,
             };
         }
         if kind == shape::HELLO_REQUEST {
             return Turn {
-                number: 0,
+                refusal,
                 kind,
                 place: 0,
             };
         }
         if kind == shape::FINISHED {
             return Turn {
-                number: 7,
+                refusal: refuse(7),
                 kind,
                 place: 0,
             };
@@ -105,13 +107,13 @@ impl Log {
         let place = order::next(self.place, kind, resumes);
         if place == order::NOWHERE {
             return Turn {
-                number: 7,
+                refusal: refuse(7),
                 kind,
                 place,
             };
         }
         Turn {
-            number: 0,
+            refusal,
             kind,
             place,
         }
@@ -134,11 +136,11 @@ impl Log {
         ensures { λ r. ⌜ Hashes self r ⌝ }
     {
         if order::exchanged(self.place) {
-            let refusal = refusal::refuse(0);
+            let refusal = refuse(0);
             let hash = self.session;
             return SessionHash { refusal, hash };
         }
-        let refusal = refusal::refuse(7);
+        let refusal = refuse(7);
         SessionHash {
             refusal,
             hash: [0; 32],

@@ -1,14 +1,15 @@
 -- What a call's number tells of its tests.
 -- Assumes nothing.
 use mathlib.Core.Path.{_≡_, refl}
-use mathlib.Core.Bool.{Bool, true, false, not, _&&_}
+use mathlib.Core.Bool.{Bool, true, false, not, _&&_, _||_}
 use mathlib.Core.List.{List, [], _∷_, _++_}
 use Prim.Native.Nat.{ℕ, _≤_}
 use native.Mathlib.Omega.{arith}
 use lib.Dec.{leb, eqb}
-use borrow.Author.Tests.{leb-true, eqb-false, not-true}
+use borrow.Author.Tests.{leb-true, eqb-true, eqb-false, not-true}
 use Rattle.seqs.specs.Cases.{and-left, and-right}
-use Rattle.refusal.specs.First.{firstOf}
+use Rattle.refusal.specs.First.{firstOf, firstFault}
+use Rattle.refusal.specs.Table.{placed}
 
 -- every number of the list is one of 1 to 11: this is computed, whatever the tests are
 abbrev pub refusing : List (ℕ × Bool) → Bool
@@ -43,3 +44,31 @@ unfolding firstOf
 first-front [] rest z = absurd (z refl)
 first-front ((n, true) ∷ front) rest z = refl
 first-front ((n, false) ∷ front) rest z = first-front front rest z
+
+-- tests of a message, without their places
+abbrev pub numbersOf : List (ℕ × ℕ × Bool) → List (ℕ × Bool)
+numbersOf [] = []
+numbersOf ((n, p, b) ∷ rest) = (n, b) ∷ numbersOf rest
+
+pub fault-number : (tests : List (ℕ × ℕ × Bool)) → firstFault tests .number ≡ firstOf (numbersOf tests)
+unfolding firstOf firstFault
+fault-number [] = refl
+fault-number ((n, p, true) ∷ rest) = refl
+fault-number ((n, p, false) ∷ rest) = fault-number rest
+
+pub fault-front : (front rest : List (ℕ × ℕ × Bool)) → (firstFault front .number ≡ 0 → ⊥) → firstFault (front ++ rest) ≡ firstFault front
+unfolding firstFault
+fault-front [] rest z = absurd (z refl)
+fault-front ((n, p, true) ∷ front) rest z = refl
+fault-front ((n, p, false) ∷ front) rest z = fault-front front rest z
+
+-- no place stands with a number that goes with none: this is computed, whatever the tests are
+abbrev pub bare : List (ℕ × ℕ × Bool) → Bool
+bare [] = true
+bare ((n, p, b) ∷ rest) = (placed n || eqb p 0) && bare rest
+
+pub fault-bare : (tests : List (ℕ × ℕ × Bool)) → bare tests ≡ true → placed (firstFault tests .number) ≡ false → firstFault tests .place ≡ 0
+unfolding firstFault
+fault-bare [] t z = refl
+fault-bare ((n, p, true) ∷ rest) t z = eqb-true p 0 (rw z at (and-left (placed n || eqb p 0) (bare rest) t))
+fault-bare ((n, p, false) ∷ rest) t z = fault-bare rest (and-right (placed n || eqb p 0) _ t) z

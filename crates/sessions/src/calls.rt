@@ -161,29 +161,24 @@ impl Table {
     pub fn withdraw(self, axle: u8, identifier: &[u8]) -> Withdrawn
         ensures { λ r. ⌜ Withdraws self axle (now (identifier .entry)) r ⌝ }
     {
+        let refusal = refuse(0);
+        let mut r = Withdrawn {
+            refusal,
+            withdrawn: 0,
+            table: self,
+        };
         if bad_name(axle, identifier) {
-            return Withdrawn {
-                refusal: refuse(11),
-                withdrawn: 0,
-                table: self,
-            };
+            r.refusal = refuse(11);
+            return r;
         }
         let at = self.find(axle, identifier);
         let size = self.size();
-        let refusal = refuse(0);
         if size <= at {
-            return Withdrawn {
-                refusal,
-                withdrawn: 0,
-                table: self,
-            };
+            return r;
         }
-        let table = self.without(at);
-        Withdrawn {
-            refusal,
-            withdrawn: 1,
-            table,
-        }
+        r.withdrawn = 1;
+        r.table = self.without(at);
+        r
     }
 
     pub fn held(self, axle: u8) -> Held

@@ -1,6 +1,6 @@
 -- Laws: what the parts above may use of a hash, whatever its layout.
 -- Assumes nothing.
-use mathlib.Core.Path.{_≡_, refl, ap}
+use mathlib.Core.Path.{_≡_, refl, sym, _∙_, ap}
 use mathlib.Core.List.{List, [], _∷_}
 use mathlib.Core.Bool.{Bool, true, false}
 use Prim.Native.Nat.{ℕ, _+_, _≤_, _<_}
@@ -15,6 +15,7 @@ use Rattle.seqs.proofs.Bytes.{bytes-bytesOf}
 use Rattle.seqs.proofs.Ending.{same-end}
 use Rattle.refusal.specs.First.{firstOf}
 use Rattle.refusal.specs.Table.{refusalOf}
+use Rattle.refusal.specs.Listed.{row-number}
 use Rattle.sha256.specs.Constants.{initial}
 use Rattle.sha256.specs.Compress.{step, output}
 use Rattle.sha256.specs.Sha256.{sha256}
@@ -32,23 +33,23 @@ unfolding absorbNumber firstOf
 number-within t n h = rw (le-ltb most (t + n) h)
 
 -- a call that answers 0 stayed within the bound, and any other did not
-test-done : (b : Bool) → refusalOf (firstOf ((10, b) ∷ [])) .number ≡ 0 → b ≡ false
-unfolding refusalOf firstOf
+test-done : (b : Bool) → firstOf ((10, b) ∷ []) ≡ 0 → b ≡ false
+unfolding firstOf
 test-done true h = absurd (omega arith)
 test-done false h = refl
 
-test-refused : (b : Bool) → (refusalOf (firstOf ((10, b) ∷ [])) .number ≡ 0 → ⊥) → b ≡ true
-unfolding refusalOf firstOf
+test-refused : (b : Bool) → (firstOf ((10, b) ∷ []) ≡ 0 → ⊥) → b ≡ true
+unfolding firstOf
 test-refused true h = refl
 test-refused false h = absurd (h refl)
 
 pub number-done : (t n : ℕ) → refusalOf (absorbNumber t n) .number ≡ 0 → t + n ≤ most
 unfolding absorbNumber
-number-done t n h = ltb-false most (t + n) (test-done (ltb most (t + n)) h)
+number-done t n h = ltb-false most (t + n) (test-done (ltb most (t + n)) (sym (row-number (absorbNumber t n)) ∙ h))
 
 pub number-refused : (t n : ℕ) → (refusalOf (absorbNumber t n) .number ≡ 0 → ⊥) → most < t + n
 unfolding absorbNumber
-number-refused t n h = ltb-true most (t + n) (test-refused (ltb most (t + n)) h)
+number-refused t n h = ltb-true most (t + n) (test-refused (ltb most (t + n)) (λ e. h (row-number (absorbNumber t n) ∙ e)))
 
 -- a running hash has taken as many bytes as its message has
 pub taken-length : {hash : Hash} {m : List ℕ} → Running hash m → taken hash ≡ length m

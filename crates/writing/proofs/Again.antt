@@ -13,15 +13,15 @@ use Rattle.seqs.specs.Pick.{pick}
 use Rattle.seqs.specs.Bytes.{Bytes}
 use Rattle.seqs.specs.Cases.{or-right}
 use Rattle.refusal.specs.First.{firstOf}
-use Rattle.refusal.proofs.First.{first-zero}
 use Rattle.message.specs.Numbers.{byteAt, pairAt, tripleAt}
-use Rattle.message.specs.Frame.{overlong, misstated, kindOf, bodyOf}
+use Rattle.message.specs.Frame.{cutOff, misstated, kindOf, bodyOf}
 use Rattle.message.proofs.Frames.{stated-long}
-use Rattle.hello.specs.Layout.{Parse, parsed, big}
-use Rattle.hello.specs.Fields.{Hello, fields, clientLayout, serverLayout, helloNumber, readingOf, wrongClientVersion, wrongServerVersion, readClient, readServer}
+use Rattle.hello.specs.Layout.{Parse, parsed, Left, from, big}
+use Rattle.hello.specs.Fields.{Hello, Form, clientForm, serverForm, fields, clientLayout, serverLayout, readAs, readClient, readServer}
 use Rattle.hello.specs.Learnt.{ClientBounds, ServerBounds}
 use Rattle.hello.specs.Written.{twoBytes}
-use Rattle.hello.proofs.Laid.{clean, parsed-same, pick-parsed, reading-zero}
+use Rattle.hello.proofs.Inversions.{pick-parsed}
+use Rattle.hello.proofs.Laid.{clean, parsed-same}
 use Rattle.hello.proofs.Learnt.{client-bounds, server-bounds}
 use Rattle.writing.specs.Lists.{misshapen}
 use Rattle.writing.specs.Messages.{messageOf, vector8, vector16, clientBytes, serverBytes}
@@ -35,18 +35,22 @@ pub record Rewritten (bytes : Hello → List ℕ) (l : List ℕ) (f : Hello) : T
   pub blocked : unblocked f ≡ false
   pub shapes : misshapen (f .extensions) ≡ false
 
-client-body : (l : List ℕ) (f : Hello) → Bytes l → clientLayout l ≡ parsed f → Rewritten clientBody l f
+-- the bodies
+abbrev Relaid : (Left → Parse Hello) → (Hello → List ℕ) → Type 0
+Relaid layout body = (l : Left) (f : Hello) → Bytes (l .bytes) → layout l ≡ parsed f → Rewritten body (l .bytes) f
+
+client-body : Relaid clientLayout clientBody
 unfolding clientLayout unblocked
 client-body l f h e =
     let o = opening-forth f _ l h e in
     let s = vector-forth f _ 2 2 65534 (o .rest) (o .on) in
-    let t = vector-forth f _ 1 1 255 (s .rest) (pick-parsed (eqb (length (s .part) % 2) 0) _ f (s .on) .1) in
+    let t = vector-forth f _ 1 1 255 (s .rest) (pick-parsed (eqb (length (s .part) % 2) 0) _ _ f (s .on) .1) in
     let front : List ℕ = twoBytes (big (o .version)) ++ o .random ++ vector8 (o .identifier) in
-    let s-bytes : Bytes (o .rest) = bytes-right front (o .rest) (rw (o .is) at h) in
-    let s-is : o .rest ≡ vector16 (s .part) ++ s .rest = wide f _ (o .rest) 2 s refl s-bytes in
-    let t-bytes : Bytes (s .rest) = bytes-right (vector16 (s .part)) (s .rest) (rw s-is at s-bytes) in
-    let t-is : s .rest ≡ vector8 (t .part) ++ t .rest = narrow f _ (s .rest) 1 t refl in
-    let c = closing-forth f _ (t .rest) (bytes-right (vector8 (t .part)) (t .rest) (rw t-is at t-bytes)) (t .on) in
+    let s-bytes : Bytes (o .rest .bytes) = bytes-right front (o .rest .bytes) (rw (o .is) at h) in
+    let s-is : o .rest .bytes ≡ vector16 (s .part) ++ s .rest .bytes = wide f _ (o .rest) 2 s refl s-bytes in
+    let t-bytes : Bytes (s .rest .bytes) = bytes-right (vector16 (s .part)) (s .rest .bytes) (rw s-is at s-bytes) in
+    let t-is : s .rest .bytes ≡ vector8 (t .part) ++ t .rest .bytes = narrow f _ (s .rest) 1 t refl in
+    let c = closing-forth f _ (t .rest) (bytes-right (vector8 (t .part)) (t .rest .bytes) (rw t-is at t-bytes)) (t .on) in
     let g = parsed-same (c .on) in
     record {
       is =
@@ -59,16 +63,16 @@ client-body l f h e =
       shapes = rw g (c .shapes);
     }
 
-server-body : (l : List ℕ) (f : Hello) → Bytes l → serverLayout l ≡ parsed f → Rewritten serverBody l f
+server-body : Relaid serverLayout serverBody
 unfolding serverLayout unblocked
 server-body l f h e =
     let o = opening-forth f _ l h e in
     let s = field-forth f _ (o .rest) 2 (o .on) in
     let t = field-forth f _ (s .rest) 1 (s .on) in
     let front : List ℕ = twoBytes (big (o .version)) ++ o .random ++ vector8 (o .identifier) in
-    let s-bytes : Bytes (o .rest) = bytes-right front (o .rest) (rw (o .is) at h) in
-    let t-bytes : Bytes (s .rest) = bytes-right (s .part) (s .rest) (rw (s .is) at s-bytes) in
-    let c = closing-forth f _ (t .rest) (bytes-right (t .part) (t .rest) (rw (t .is) at t-bytes)) (t .on) in
+    let s-bytes : Bytes (o .rest .bytes) = bytes-right front (o .rest .bytes) (rw (o .is) at h) in
+    let t-bytes : Bytes (s .rest .bytes) = bytes-right (s .part) (s .rest .bytes) (rw (s .is) at s-bytes) in
+    let c = closing-forth f _ (t .rest) (bytes-right (t .part) (t .rest .bytes) (rw (t .is) at t-bytes)) (t .on) in
     let g = parsed-same (c .on) in
     record {
       is =
@@ -83,7 +87,7 @@ server-body l f h e =
 
 -- the header, where the length that it states is the body's
 header-forth : (kind : ℕ) (m : List ℕ) → Bytes m → misstated m ≡ false → kindOf m ≡ kind → messageOf kind (drop 4 m) ≡ m
-unfolding misstated kindOf bodyOf tripleAt pairAt byteAt
+unfolding misstated cutOff kindOf bodyOf tripleAt pairAt byteAt
 header-forth kind [] h e k = absurd (omega (arith, stated-long [] e))
 header-forth kind (a ∷ []) h e k = absurd (omega (arith, stated-long (a ∷ []) e))
 header-forth kind (a ∷ b ∷ []) h e k = absurd (omega (arith, stated-long (a ∷ b ∷ []) e))
@@ -97,24 +101,21 @@ header-forth kind (a ∷ b ∷ c ∷ d ∷ body) h e k =
     rw (← k, x, y, z)
 
 -- of either hello, by what is known of its body
-module _ (kind : ℕ) (layout : List ℕ → Parse Hello) (wrong : ℕ → Bool) (outside : Hello → Bool) (bytes body : Hello → List ℕ)
-    (whole : (f : Hello) → bytes f ≡ messageOf kind (body f))
-    (laid : (l : List ℕ) (f : Hello) → Bytes l → layout l ≡ parsed f → Rewritten body l f)
-    (m : List ℕ) (f : Hello) (h : Bytes m) (e : readingOf (helloNumber kind layout wrong m) (layout (bodyOf m)) ≡ fields f) where
+module _ (k : Form) (begins : k .start ≡ 4) (outside : Hello → Bool) (bytes body : Hello → List ℕ)
+    (whole : (f : Hello) → bytes f ≡ messageOf (k .kind) (body f)) (laid : Relaid (k .layout) body)
+    (m : List ℕ) (f : Hello) (h : Bytes m) (e : readAs k m ≡ fields f) where
   message-forth : Rewritten bytes m f
-  unfolding helloNumber
   message-forth =
-      let z = first-zero _ refl (reading-zero (helloNumber kind layout wrong m) (layout (bodyOf m)) f e .0) in
-      let l = header-forth kind m h (z .1 .0) (eqb-true _ kind (not-false _ (z .1 .1 .0))) in
-      let b = laid (drop 4 m) f (λ i. rw (getD-drop 4 m i 0) (h (4 + i))) (clean kind layout wrong m f e .laid) in
-      record { is = whole f ∙ ap (messageOf kind) (b .is) ∙ l; blocked = b .blocked; shapes = b .shapes }
+      let c = clean k m f e in
+      let b = laid (from m 4) f (λ i. rw (getD-drop 4 m i 0) (h (4 + i))) (rw begins at (c .laid)) in
+      record { is = whole f ∙ ap (messageOf (k .kind)) (b .is) ∙ header-forth (k .kind) m h (c .stated) (c .kind); blocked = b .blocked; shapes = b .shapes }
 
-  number-forth : outside f ≡ false → (out : List ℕ) → writeNumber outside bytes wrong true f out ≡ pick (ltb (length out) (length m)) 10 0
-  unfolding writeNumber firstOf overlong
+  number-forth : outside f ≡ false → (out : List ℕ) → writeNumber outside bytes (k .wrong) true f out ≡ pick (ltb (length out) (length m)) 10 0
+  unfolding writeNumber firstOf
   number-forth o out =
-      let c = clean kind layout wrong m f e in
+      let c = clean k m f e in
       let r = message-forth in
-      rw (o, r .is, r .blocked, le-ltb 16388 (length m) (c .longest), r .shapes, c .differ, c .version)
+      rw (o, r .is, r .blocked, c .short, r .shapes, c .differ, c .version)
 
 -- the bounds of what was read are the writers'
 client-inside : (m : List ℕ) (f : Hello) → ClientBounds m f → clientOutside f ≡ false
@@ -131,21 +132,21 @@ server-inside m f b =
 module _ (m : List ℕ) (f : Hello) (h : Bytes m) (e : readClient m ≡ fields f) where
   pub client-forth : Rewritten clientBytes m f
   unfolding readClient
-  client-forth = message-forth 1 clientLayout wrongClientVersion clientOutside clientBytes clientBody client-bytes client-body m f h e
+  client-forth = message-forth clientForm refl clientOutside clientBytes clientBody client-bytes client-body m f h e
 
   pub client-number : (out : List ℕ) → clientNumber true f out ≡ pick (ltb (length out) (length m)) 10 0
   unfolding readClient
   client-number =
-      number-forth 1 clientLayout wrongClientVersion clientOutside clientBytes clientBody client-bytes client-body m f h e
+      number-forth clientForm refl clientOutside clientBytes clientBody client-bytes client-body m f h e
       (client-inside m f (client-bounds m f e))
 
 module _ (m : List ℕ) (f : Hello) (h : Bytes m) (e : readServer m ≡ fields f) where
   pub server-forth : Rewritten serverBytes m f
   unfolding readServer
-  server-forth = message-forth 2 serverLayout wrongServerVersion serverOutside serverBytes serverBody server-bytes server-body m f h e
+  server-forth = message-forth serverForm refl serverOutside serverBytes serverBody server-bytes server-body m f h e
 
   pub server-number : (out : List ℕ) → serverNumber true f out ≡ pick (ltb (length out) (length m)) 10 0
   unfolding readServer
   server-number =
-      number-forth 2 serverLayout wrongServerVersion serverOutside serverBytes serverBody server-bytes server-body m f h e
+      number-forth serverForm refl serverOutside serverBytes serverBody server-bytes server-body m f h e
       (server-inside m f (server-bounds m f e))

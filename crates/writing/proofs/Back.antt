@@ -1,9 +1,9 @@
 -- Reading what was written: each field, and then the whole of either hello, comes back as it was.
 -- Assumes nothing.
-use mathlib.Core.Path.{_≡_, refl, sym, _∙_, ap}
+use mathlib.Core.Path.{_≡_, refl, _∙_, ap}
 use mathlib.Core.Bool.{Bool, true, false, not, _&&_}
 use mathlib.Core.List.{List, [], _∷_, _++_, append-assoc}
-use Prim.Native.Nat.{ℕ, suc, _%_, _≤_}
+use Prim.Native.Nat.{ℕ, suc, _+_, _%_, _≤_}
 use native.Mathlib.Omega.{arith}
 use lib.Dec.{eqb, ltb}
 use lib.ListN.{length, length-append}
@@ -11,13 +11,13 @@ use lib.Seq.{take-at, drop-at}
 use borrow.Author.Tests.{eq-eqb, eqb-true, le-leb, le-ltb, ltb-false, not-false}
 use Rattle.seqs.specs.Pick.{pick}
 use Rattle.seqs.specs.Cases.{or-left, or-right}
-use Rattle.refusal.specs.First.{firstOf}
+use Rattle.refusal.specs.First.{firstFault}
 use Rattle.refusal.proofs.First.{first-zero}
 use Rattle.message.specs.Numbers.{byteAt, pairAt, tripleAt}
-use Rattle.message.specs.Frame.{overlong, misstated, kindOf, bodyOf}
-use Rattle.hello.specs.Layout.{Parse, parsed, big, field, counted, vector}
+use Rattle.message.specs.Frame.{overlong, cutOff, misstated, otherKind, kindOf, bodyOf}
+use Rattle.hello.specs.Layout.{Parse, parsed, Left, big, field, counted, vector}
 use Rattle.hello.specs.Extensions.{Extension, shaped, twice}
-use Rattle.hello.specs.Fields.{Hello, fields, opening, closing, clientLayout, serverLayout, helloNumber, readingOf, wrongClientVersion, wrongServerVersion, readClient, readServer}
+use Rattle.hello.specs.Fields.{Hello, Form, clientForm, serverForm, laidOut, fields, opening, closing, clientLayout, serverLayout, helloFault, readAs, readClient, readServer}
 use Rattle.hello.specs.Written.{twoBytes, writtenBlock, Shaped}
 use Rattle.hello.proofs.Vectors.{field-yes}
 use Rattle.hello.proofs.Reread.{two-back, block-back}
@@ -45,17 +45,22 @@ unfolding serverBytes
 server-bytes f = ap (messageOf 2) (apart (openingBytes f) (f .suites) (f .methods) (closingBytes f))
 
 -- a field in front of the rest
-field-back : {A : Type 0} (then : List ℕ → List ℕ → Parse A) (n : ℕ) (d rest : List ℕ) → length d ≡ n → field n (d ++ rest) then ≡ then d rest
-field-back then n d rest e = field-yes then n (d ++ rest) (rw length-append (omega arith)) ∙ (rw (take-at d rest n e, drop-at d rest n e))
+field-back : {A : Type 0} (then : List ℕ → Left → Parse A) (at n : ℕ) (d rest : List ℕ) → length d ≡ n
+    → field n (record { at = at; bytes = d ++ rest }) then ≡ then d (record { at = at + n; bytes = rest })
+field-back then at n d rest e =
+    field-yes then n (record { at = at; bytes = d ++ rest }) (rw length-append (omega arith)) ∙ (rw (take-at d rest n e, drop-at d rest n e))
 
 -- a vector behind its length p, in however many bytes
-module _ {A : Type 0} (p d rest : List ℕ) (s : big p ≡ length d) where
-  counted-back : (then : List ℕ → List ℕ → Parse A) → counted (length p) (p ++ (d ++ rest)) then ≡ then d rest
+module _ {A : Type 0} (at : ℕ) (p d rest : List ℕ) (s : big p ≡ length d) where
+  counted-back : (then : List ℕ → Left → Parse A)
+      → counted (length p) (record { at = at; bytes = p ++ (d ++ rest) }) then ≡ then d (record { at = at + length p + length d; bytes = rest })
   unfolding counted
-  counted-back then = field-back _ (length p) p (d ++ rest) refl ∙ field-back then (big p) d rest (sym s)
+  counted-back then =
+      field-back _ at (length p) p (d ++ rest) refl
+      ∙ (rw (s, le-leb (length d) (length (d ++ rest)) (rw length-append (omega arith)), take-at d rest _ refl, drop-at d rest _ refl))
 
-  vector-back : (then : List ℕ → List ℕ → Parse A) (low high : ℕ) → low ≤ length d → length d ≤ high
-      → vector (length p) low high (p ++ (d ++ rest)) then ≡ then d rest
+  vector-back : (then : List ℕ → Left → Parse A) (low high : ℕ) → low ≤ length d → length d ≤ high
+      → vector (length p) low high (record { at = at; bytes = p ++ (d ++ rest) }) then ≡ then d (record { at = at + length p + length d; bytes = rest })
   unfolding vector
   vector-back then low high l h = counted-back _ ∙ (rw (le-leb low (length d) l, le-leb (length d) high h))
 
@@ -65,15 +70,16 @@ one-back n = omega arith
 
 -- the opening
 module _ (f : Hello) (within : openingOutside f ≡ false) where
-  opening-back : (then : List ℕ → List ℕ → List ℕ → List ℕ → Parse Hello) (rest : List ℕ)
-      → opening (openingBytes f ++ rest) then ≡ then (twoBytes (f .version)) (f .random) (f .identifier) rest
+  opening-back : (then : List ℕ → List ℕ → List ℕ → Left → Parse Hello) (at : ℕ) (rest : List ℕ)
+      → opening (record { at = at; bytes = openingBytes f ++ rest }) then
+      ≡ then (twoBytes (f .version)) (f .random) (f .identifier) (record { at = at + 2 + 32 + 1 + length (f .identifier); bytes = rest })
   unfolding opening openingOutside
-  opening-back then rest =
+  opening-back then at rest =
       let n = none-of (not (eqb (length (f .random)) 32)) (ltb 32 (length (f .identifier)) ∷ []) within in
       rw (append-assoc (f .random) (vector8 (f .identifier)) rest)
-      (field-back _ 2 (twoBytes (f .version)) (f .random ++ (vector8 (f .identifier) ++ rest)) refl
-      ∙ field-back _ 32 (f .random) (vector8 (f .identifier) ++ rest) (eqb-true _ 32 (not-false _ (n .0)))
-      ∙ vector-back (length (f .identifier) ∷ []) (f .identifier) rest (one-back _) _ 0 32 (omega arith) (ltb-false 32 _ (n .1 .0)))
+      (field-back _ at 2 (twoBytes (f .version)) (f .random ++ (vector8 (f .identifier) ++ rest)) refl
+      ∙ field-back _ _ 32 (f .random) (vector8 (f .identifier) ++ rest) (eqb-true _ 32 (not-false _ (n .0)))
+      ∙ vector-back _ (length (f .identifier) ∷ []) (f .identifier) rest (one-back _) _ 0 32 (omega arith) (ltb-false 32 _ (n .1 .0)))
 
 pub empty : {A : Type 0} (l : List A) → eqb (length l) 0 ≡ true → l ≡ []
 empty [] e = refl
@@ -86,19 +92,24 @@ shaped-all [] h = tt
 shaped-all (e ∷ es) h =
     (not-false _ (or-left _ (misshapen es) h), shaped-all es (or-right (not (shaped (e .kind) (e .content))) _ h))
 
-closing-back : (f : Hello) (then : Bool → List Extension → Parse Hello) → unblocked f ≡ false → misshapen (f .extensions) ≡ false
-    → closing (closingBytes f) then ≡ then (f .block) (f .extensions)
+closing-back : (f : Hello) (then : Bool → List Extension → Parse Hello) (at : ℕ) → unblocked f ≡ false → misshapen (f .extensions) ≡ false
+    → closing (record { at = at; bytes = closingBytes f }) then ≡ then (f .block) (f .extensions)
 unfolding unblocked closing
-closing-back f then u m = go (f .block) (f .extensions) u (shaped-all (f .extensions) m)
+closing-back f then at u m = go (f .block) (f .extensions) u (shaped-all (f .extensions) m)
   where
-    go : (b : Bool) (es : List Extension) → (not b && not (eqb (length es) 0)) ≡ false → Shaped es → closing (pick b (writtenBlock es) []) then ≡ then b es
-    go true es u s = block-back then es s
+    go : (b : Bool) (es : List Extension) → (not b && not (eqb (length es) 0)) ≡ false → Shaped es
+        → closing (record { at = at; bytes = pick b (writtenBlock es) [] }) then ≡ then b es
+    go true es u s = block-back then at es s
     go false es u s = rw (empty es (not-false _ u))
 
 -- the bodies
-client-laid : (f : Hello) → clientOutside f ≡ false → unblocked f ≡ false → misshapen (f .extensions) ≡ false → clientLayout (clientBody f) ≡ parsed f
+abbrev Laid : (Left → Parse Hello) → (Hello → Bool) → (Hello → List ℕ) → Type 0
+Laid layout outside body =
+    (at : ℕ) (f : Hello) → outside f ≡ false → unblocked f ≡ false → misshapen (f .extensions) ≡ false → layout (record { at = at; bytes = body f }) ≡ parsed f
+
+client-laid : Laid clientLayout clientOutside clientBody
 unfolding clientOutside clientLayout
-client-laid f o u m =
+client-laid at f o u m =
     let s = f .suites in
     let t = f .methods in
     let n = none-of (openingOutside f) (ltb (length s) 2 ∷ ltb 65534 (length s) ∷ not (eqb (length s % 2) 0) ∷ ltb (length t) 1 ∷ ltb 255 (length t) ∷ []) o in
@@ -106,34 +117,34 @@ client-laid f o u m =
     let s-to : length s ≤ 65534 = ltb-false 65534 _ (n .1 .1 .0) in
     let t-from : 1 ≤ length t = ltb-false _ 1 (n .1 .1 .1 .1 .0) in
     let t-to : length t ≤ 255 = ltb-false 255 _ (n .1 .1 .1 .1 .1 .0) in
-    opening-back f (n .0) _ _
-    ∙ vector-back (twoBytes (length s)) s (vector8 t ++ closingBytes f) (two-back _) _ 2 65534 s-from s-to
+    opening-back f (n .0) _ at _
+    ∙ vector-back _ (twoBytes (length s)) s (vector8 t ++ closingBytes f) (two-back _) _ 2 65534 s-from s-to
     ∙ (rw (not-false (eqb (length s % 2) 0) (n .1 .1 .1 .0))
-    (vector-back (length t ∷ []) t (closingBytes f) (one-back _) _ 1 255 t-from t-to ∙ closing-back f _ u m ∙ (rw two-back)))
+    (vector-back _ (length t ∷ []) t (closingBytes f) (one-back _) _ 1 255 t-from t-to ∙ closing-back f _ _ u m ∙ (rw two-back)))
 
-server-laid : (f : Hello) → serverOutside f ≡ false → unblocked f ≡ false → misshapen (f .extensions) ≡ false → serverLayout (serverBody f) ≡ parsed f
+server-laid : Laid serverLayout serverOutside serverBody
 unfolding serverOutside serverLayout
-server-laid f o u m =
+server-laid at f o u m =
     let n = none-of (openingOutside f) (not (eqb (length (f .suites)) 2) ∷ not (eqb (length (f .methods)) 1) ∷ []) o in
-    opening-back f (n .0) _ _
-    ∙ field-back _ 2 (f .suites) (f .methods ++ closingBytes f) (eqb-true _ 2 (not-false _ (n .1 .0)))
-    ∙ field-back _ 1 (f .methods) (closingBytes f) (eqb-true _ 1 (not-false _ (n .1 .1 .0)))
-    ∙ closing-back f _ u m
+    opening-back f (n .0) _ at _
+    ∙ field-back _ _ 2 (f .suites) (f .methods ++ closingBytes f) (eqb-true _ 2 (not-false _ (n .1 .0)))
+    ∙ field-back _ _ 1 (f .methods) (closingBytes f) (eqb-true _ 1 (not-false _ (n .1 .1 .0)))
+    ∙ closing-back f _ _ u m
     ∙ (rw two-back)
 
 -- the header states the body's length
 stated-back : (kind : ℕ) (body : List ℕ) → misstated (messageOf kind body) ≡ false
-unfolding misstated bodyOf tripleAt pairAt byteAt
+unfolding misstated cutOff bodyOf tripleAt pairAt byteAt
 stated-back kind body =
     let m = messageOf kind body in
     rw (le-ltb (length m) 4 (omega arith), eq-eqb (tripleAt m 1) (length body) (omega arith))
 
--- a message whose body is laid out so reads as these fields
-message-back : (kind : ℕ) (layout : List ℕ → Parse Hello) (wrong : ℕ → Bool) (body : List ℕ) (f : Hello)
-    → layout body ≡ parsed f → overlong (messageOf kind body) ≡ false → twice (f .extensions) ≡ false → wrong (f .version) ≡ false
-    → readingOf (helloNumber kind layout wrong (messageOf kind body)) (layout (bodyOf (messageOf kind body))) ≡ fields f
-unfolding helloNumber firstOf bodyOf kindOf byteAt
-message-back kind layout wrong body f e l t v = rw (e, l, stated-back kind body, eq-eqb kind kind refl, t, v)
+-- a message that is laid out so reads as these fields
+message-back : (k : Form) (body : List ℕ) (f : Hello) → laidOut k (messageOf (k .kind) body) ≡ parsed f
+    → overlong (messageOf (k .kind) body) ≡ false → twice (f .extensions) ≡ false → k .wrong (f .version) ≡ false
+    → readAs k (messageOf (k .kind) body) ≡ fields f
+unfolding helloFault firstFault otherKind kindOf byteAt
+message-back k body f e l t v = rw (e, l, stated-back (k .kind) body, eq-eqb (k .kind) (k .kind) refl, t, v)
 
 -- what the number 0 tells of the fields
 module _ (outside : Hello → Bool) (bytes : Hello → List ℕ) (wrong : ℕ → Bool) (f : Hello) (out : List ℕ) where
@@ -159,20 +170,18 @@ module _ (outside : Hello → Bool) (bytes : Hello → List ℕ) (wrong : ℕ �
       }
 
 -- of either hello, by what is known of its body
-module _ (kind : ℕ) (layout : List ℕ → Parse Hello) (wrong : ℕ → Bool) (outside : Hello → Bool) (bytes body : Hello → List ℕ)
-    (whole : (f : Hello) → bytes f ≡ messageOf kind (body f))
-    (laid : (f : Hello) → outside f ≡ false → unblocked f ≡ false → misshapen (f .extensions) ≡ false → layout (body f) ≡ parsed f) where
-  message-reads : (f : Hello) (out : List ℕ) → writeNumber outside bytes wrong true f out ≡ 0
-      → readingOf (helloNumber kind layout wrong (bytes f)) (layout (bodyOf (bytes f))) ≡ fields f
+module _ (k : Form) (begins : k .start ≡ 4) (outside : Hello → Bool) (bytes body : Hello → List ℕ)
+    (whole : (f : Hello) → bytes f ≡ messageOf (k .kind) (body f)) (laid : Laid (k .layout) outside body) where
+  message-reads : (f : Hello) (out : List ℕ) → writeNumber outside bytes (k .wrong) true f out ≡ 0 → readAs k (bytes f) ≡ fields f
   message-reads f out e =
-      let s = sound outside bytes wrong f out e in
-      let l : layout (body f) ≡ parsed f = laid f (s .inside) (s .blocked) (s .shapes) in
-      rw (whole f) (message-back kind layout wrong (body f) f l (rw (whole f) at (s .short)) (s .differ) (s .version))
+      let s = sound outside bytes (k .wrong) f out e in
+      let l : laidOut k (messageOf (k .kind) (body f)) ≡ parsed f = rw begins (laid 4 f (s .inside) (s .blocked) (s .shapes)) in
+      rw (whole f) (message-back k (body f) f l (rw (whole f) at (s .short)) (s .differ) (s .version))
 
 pub client-reads : (f : Hello) (out : List ℕ) → clientNumber true f out ≡ 0 → readClient (clientBytes f) ≡ fields f
 unfolding readClient
-client-reads = message-reads 1 clientLayout wrongClientVersion clientOutside clientBytes clientBody client-bytes client-laid
+client-reads = message-reads clientForm refl clientOutside clientBytes clientBody client-bytes client-laid
 
 pub server-reads : (f : Hello) (out : List ℕ) → serverNumber true f out ≡ 0 → readServer (serverBytes f) ≡ fields f
 unfolding readServer
-server-reads = message-reads 2 serverLayout wrongServerVersion serverOutside serverBytes serverBody server-bytes server-laid
+server-reads = message-reads serverForm refl serverOutside serverBytes serverBody server-bytes server-laid

@@ -3,13 +3,13 @@
 use mathlib.Core.Path.{refl, ap}
 use native.Mathlib.Omega.{arith}
 use lib.ListN.{length}
-use Rattle.refusal.specs.First.{firstOf}
-use Rattle.refusal.specs.Table.{refusalOf}
+use Rattle.refusal.specs.First.{firstOf, firstFault}
+use Rattle.refusal.specs.Table.{refusalOf, refusalAt}
 use Rattle.message.specs.Numbers.{byteAt, pairAt, tripleAt}
-use Rattle.message.specs.Frame.{kindOf, bodyOf, overlong, misstated}
+use Rattle.message.specs.Frame.{kindOf, bodyOf, overlong, cutOff, misstated, otherKind}
 use Rattle.hello.specs.Layout.{big, field, counted, vector}
 use Rattle.hello.specs.Extensions.{shaped, extension, listOf, extensionsOf, has, twice}
-use Rattle.hello.specs.Fields.{opening, closing, clientLayout, serverLayout, helloNumber, readClient, readServer}
+use Rattle.hello.specs.Fields.{opening, closing, clientLayout, serverLayout, helloFault, readClient, readServer}
 use Rattle.hello.specs.Written.{writtenList, writtenBlock}
 use Rattle.writing.specs.Lists.{total, fitting, extensionsFrom, misshapen}
 use Rattle.writing.specs.Messages.{clientBytes, serverBytes}
@@ -53,7 +53,7 @@ server-refuses =
     }
 
 called : Called
-unfolding firstOf refusalOf byteAt overlong shaped has twice writtenList writtenBlock total fitting extensionsFrom misshapen clientBytes serverBytes openingOutside clientOutside serverOutside unblocked writeNumber
+unfolding firstOf refusalOf refusalAt byteAt overlong shaped has twice writtenList writtenBlock total fitting extensionsFrom misshapen clientBytes serverBytes openingOutside clientOutside serverOutside unblocked writeNumber
 called =
     record {
       client = record { refusal = refl; size = refl; output = refl };
@@ -63,7 +63,7 @@ called =
     }
 
 pub witnesses : Witnesses
-unfolding firstOf byteAt pairAt tripleAt kindOf bodyOf overlong misstated big field counted vector shaped extension listOf extensionsOf has twice opening closing clientLayout serverLayout helloNumber readClient readServer writtenList writtenBlock misshapen clientBytes serverBytes openingOutside clientOutside serverOutside unblocked writeNumber
+unfolding firstOf firstFault byteAt pairAt tripleAt kindOf bodyOf overlong cutOff misstated otherKind big field counted vector shaped extension listOf extensionsOf has twice opening closing clientLayout serverLayout helloFault readClient readServer writtenList writtenBlock misshapen clientBytes serverBytes openingOutside clientOutside serverOutside unblocked writeNumber
 witnesses =
     record {
       client-smallest = record { sized = refl; writes = refl; accepts = refl; short = refl; reads = refl };

@@ -61,7 +61,7 @@ module _ (read : List ℕ → Reading) (outside : Hello → Bool) (bytes : Hello
       let same : read (take (r .length) out′) ≡ fields f = rw (l, o, take-append-seam (bytes f) (drop (length (bytes f)) out)) (back f out (rw fits at n)) in
       record {
         same = same;
-        never = λ k q. let y : _≡_ {A = ℕ} 0 1 = cc in omega arith;
+        never = λ n p q. let y : _≡_ {A = ℕ} 0 1 = cc in omega arith;
         rest = rw (l, o) (drop-append-seam (bytes f) (drop (length (bytes f)) out));
         types-back = rw x (types-back ts ns d fits);
         lengths-back = rw x (lengths-back ts ns d fits);

@@ -63,6 +63,7 @@ serverNumber = writeNumber serverOutside serverBytes wrongServerVersion
 
 -- a message for a lent output: it stands at the front and the rest is as it was; refused, all is as it was
 pub record Writes (number : ℕ) (message out out′ : List ℕ) (r : Written) : Type 0 where
+  -- at place 0, with 1 and 2 as with all else: 'The writer of order 1 gives place 0' (order 9)
   pub refusal : r .refusal ≡ refusalOf number
   pub size : r .length ≡ pick (eqb number 0) (length message) 0
   pub output : out′ ≡ pick (eqb number 0) (message ++ drop (length message) out) out

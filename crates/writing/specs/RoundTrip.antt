@@ -50,7 +50,7 @@ Pairs l = (i : ℕ) → getD l i 0 < 65536
 -- nothing changed; and the list read is the one lent, type by type, length by length, byte by byte.
 pub record Reads (read : List ℕ → Reading) (f : Hello) (types lengths bytes out out′ : List ℕ) (r : Written) : Type 0 where
   pub same : read (take (r .length) out′) ≡ fields f
-  pub never : (n : ℕ) → read (take (r .length) out′) ≡ fault n → ⊥
+  pub never : (n p : ℕ) → read (take (r .length) out′) ≡ fault n p → ⊥
   pub rest : drop (r .length) out′ ≡ drop (r .length) out
   pub types-back : typesOf (f .extensions) ≡ types
   pub lengths-back : lengthsOf (f .extensions) ≡ lengths

@@ -1,6 +1,7 @@
 -- An outcome, or 6.
 -- Assumes nothing.
 use mathlib.Core.Path.{sym, _∙_, ap}
+use Rattle.refusal.specs.Table.{refusalOf}
 use Rattle.decision.specs.Connection.{refusing, refusedBy, decided}
 use Rattle.decision.specs.Steps.{outcomeIn, decidedIn}
 use Rattle.decision.specs.declared.outcome.Reached.{Reached}
@@ -42,7 +43,7 @@ granted-requires-4 : tie.Need-granted-requires-4
 granted-requires-4 c κs = search needs
 
 returns : tie.Need-returns
-unfolding refusedBy
+unfolding refusedBy refusalOf
 returns c =
     let a = c .before .before .before .before .args in
     c .refused .ensures ∙ ap refusing (c .before .refuse .ensures) ∙ sym (ap (λ (x : Reached). decidedIn (outcomeIn x) (a .flag) (a .reply-length)) (c .before .before .enum-told .given .1))

@@ -1,9 +1,9 @@
 -- The extension block.
 -- Assumes nothing.
-use mathlib.Core.Path.{sym, _∙_}
+use mathlib.Core.Path.{_∙_, subst}
 use mathlib.Core.Bool.{true, false}
 use native.Mathlib.Omega.{arith}
-use borrow.Author.Tests.{not-true, not-false}
+use Rattle.hello.specs.Cuts.{Walks}
 use Rattle.hello.proofs.Lists.{whole-end, list-end}
 use Rattle.hello.proofs.Closings.{closing-none, closing-short, closing-other, closing-bad, closing-yes}
 use borrow.Author.Needs.{needs}
@@ -44,25 +44,33 @@ returns-3 c =
     let a = p .before .before .before .before .args in
     λ then. closing-other then (a .message .now) (a .at) (p .pair .result) (p .pair .ensures .0) (omega arith) (c .if3 .taken)
 
-well-formed-requires : tie.Need-well-formed-requires
-well-formed-requires c κs = search needs
+walk-requires : tie.Need-walk-requires
+walk-requires c κs = search needs
 
-returns-4 : tie.Need-returns-4
-returns-4 c =
-    let p = c .before .before .before in
-    let a = p .before .before .before .before .args in
-    λ then. closing-bad then (a .message .now) (a .at) (p .pair .result) (p .pair .ensures .0) (omega arith) (omega arith) (sym (c .before .well-formed .ensures) ∙ not-true _ (c .if4 .taken))
+enum-known-place : tie.Need-enum-known-place
+enum-known-place c = search needs
+
+enum-told : tie.Need-enum-told
+enum-told c = search needs
 
 described-requires-2 : tie.Need-described-requires-2
 described-requires-2 c κs =
-    (omega arith, sym (c .before .well-formed .ensures) ∙ not-false _ (c .if4 .left))
+    (omega arith, subst (Walks _ _) (c .enum-told .given .1) (c .before .before .walk .ensures))
+
+returns-4 : tie.Need-returns-4
+returns-4 c =
+    let w = c .before .before .before in
+    let p = w .before .before in
+    let a = p .before .before .before .before .args in
+    let b = subst (Walks _ _) (c .before .place .given .1) (w .walk .ensures) in
+    λ then. closing-bad then (a .message .now) (a .at) (p .pair .result) (p .pair .ensures .0) (omega arith) (omega arith) _ b
 
 returns-5 : tie.Need-returns-5
 returns-5 c =
-    let w = c .before .before in
+    let w = c .before .before .before in
     let p = w .before .before in
     let a = p .before .before .before .before .args in
-    let g = sym (w .well-formed .ensures) ∙ not-false _ (c .before .if4 .left) in
+    let g = subst (Walks _ _) (c .before .enum-told .given .1) (w .walk .ensures) in
     (true, omega arith, g, c .described2 .ensures, λ then. closing-yes then (a .message .now) (a .at) (p .pair .result) (p .pair .ensures .0) (omega arith) (omega arith) g)
 
 pub read-block-spec : {M : Type 1} → statement M
@@ -77,7 +85,9 @@ read-block-spec =
     pair-requires
     sub-if3
     returns-3
-    well-formed-requires
-    returns-4
+    walk-requires
+    enum-known-place
+    enum-told
     described-requires-2
+    returns-4
     returns-5)

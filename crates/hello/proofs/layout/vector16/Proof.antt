@@ -17,7 +17,7 @@ sub-if1 c = search needs
 returns : tie.Need-returns
 returns c =
     let a = c .before .before .args in
-    λ then. vector-short then 2 (a .low) (a .high) (a .message .now) (a .at) (omega arith)
+    λ then. vector-short then 2 (a .low) (a .high) (a .message .now) (a .at) (omega arith) (omega arith)
 
 add-bounded : tie.Need-add-bounded
 add-bounded c = search needs

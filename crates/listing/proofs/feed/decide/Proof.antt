@@ -3,7 +3,7 @@
 use mathlib.Core.Path.{ap}
 use Rattle.sessions.specs.Book.{empty}
 use Rattle.decision.specs.declared.connection.Decision.{Decision}
-use Rattle.listing.specs.Listing.{decisionNumber, decisionOn}
+use Rattle.listing.specs.Listing.{decisionRefusal, decisionOn}
 use borrow.Author.Needs.{needs}
 use Rattle.listing.proofs.feed.decide.Statement.{statement}
 use Rattle.listing.proofs.feed.decide.Tie as tie
@@ -18,10 +18,10 @@ decide-server-requires : tie.Need-decide-server-requires
 decide-server-requires c κs = search needs
 
 returns : tie.Need-returns
-unfolding decisionNumber decisionOn
+unfolding decisionRefusal decisionOn
 returns c =
-    ap (λ (d : Decision). d .refusal .number)
-    (c .before .decide-server .ensures .answers empty (c .before .before .before .fresh .ensures .keeps) .answer)
+    ap (λ (d : Decision). d .refusal)
+    (c .before .before .decide-server .ensures .answers empty (c .before .before .before .before .fresh .ensures .keeps) .answer)
 
 pub decide-spec : {M : Type 1} → statement M
 decide-spec =

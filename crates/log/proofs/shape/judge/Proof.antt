@@ -18,14 +18,20 @@ enum-known-header c = search needs
 fits-requires : tie.Need-fits-requires
 fits-requires c κs = search needs
 
+refuse-requires : tie.Need-refuse-requires
+refuse-requires c κs = search needs
+
+refuse-at-requires : tie.Need-refuse-at-requires
+refuse-at-requires c κs = search needs
+
 returns : tie.Need-returns
 returns c = judge-refused _ (c .before .refusal .given .0 .0) (sym (c .before .before .before .frame .ensures) ∙ c .before .refusal .given .1)
 
 returns-2 : tie.Need-returns-2
-returns-2 c = judge-right _ (c .before .before .before .header .given .0 .0) (sym (c .before .before .before .before .before .frame .ensures) ∙ c .before .before .before .header .given .1) _ (c .before .fits2 .ensures) (c .if1 .taken)
+returns-2 c = judge-right _ (c .before .before .before .before .header .given .0 .0) (sym (c .before .before .before .before .before .before .frame .ensures) ∙ c .before .before .before .before .header .given .1) _ _ (c .before .before .fits2 .ensures) (c .refuse .ensures) (c .before .if1 .taken)
 
 returns-3 : tie.Need-returns-3
-returns-3 c = judge-wrong _ (c .before .before .before .header .given .0 .0) (sym (c .before .before .before .before .before .frame .ensures) ∙ c .before .before .before .header .given .1) _ (c .before .fits2 .ensures) (c .if1 .left)
+returns-3 c = judge-wrong _ (c .before .before .before .before .header .given .0 .0) (sym (c .before .before .before .before .before .before .frame .ensures) ∙ c .before .before .before .before .header .given .1) _ _ (c .before .before .fits2 .ensures) (c .refuse-at .ensures) (c .before .if1 .left)
 
 pub judge-spec : {M : Type 1} → statement M
 judge-spec =
@@ -35,6 +41,8 @@ judge-spec =
     enum-known-refusal
     enum-known-header
     fits-requires
+    refuse-requires
+    refuse-at-requires
     returns
     returns-2
     returns-3)

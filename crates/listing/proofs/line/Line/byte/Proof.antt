@@ -21,7 +21,7 @@ returns c =
     let s = c .args .self in
     let l : length (s .bytes) ≡ 16 = search needs in
     let h : s .length < length (s .bytes) = omega (arith, c .pre) in
-    (rw (add-one, take-suc-set (s .bytes) (s .length) (c .args .byte) h), refl)
+    record { holds = rw (add-one, take-suc-set (s .bytes) (s .length) (c .args .byte) h); long = refl }
 
 pub byte-spec : {M : Type 1} → statement M
 byte-spec = tie.close (tie.spec element-write-line add-line returns)

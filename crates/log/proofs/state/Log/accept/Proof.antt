@@ -1,7 +1,6 @@
 -- A message that is not in turn leaves the log as it was, and so does a HelloRequest; any other is taken.
 -- Assumes nothing.
 use Rattle.log.proofs.Accepting.{refused-accepts, request-accepts, done-accepts}
-use mathlib.Core.Path.{refl}
 use borrow.Author.Needs.{needs}
 use Rattle.log.proofs.state.Log.accept.Statement.{statement}
 use Rattle.log.proofs.state.Log.accept.Tie as tie
@@ -9,20 +8,17 @@ use Rattle.log.proofs.state.Log.accept.Tie as tie
 turn-requires : tie.Need-turn-requires
 turn-requires c κs = search needs
 
-refuse-requires : tie.Need-refuse-requires
-refuse-requires c κs = search needs
-
 returns : tie.Need-returns
-returns c = refused-accepts _ _ _ (c .before .before .before .turn .result) (c .before .before .before .turn .ensures) _ (c .before .before .refuse .ensures) refl (c .if1 .taken)
+returns c = refused-accepts _ _ _ (c .before .before .before .turn .result) (c .before .before .before .turn .ensures) (c .if1 .taken)
 
 returns-2 : tie.Need-returns-2
-returns-2 c = request-accepts _ _ _ (c .before .before .before .before .before .turn .result) (c .before .before .before .before .before .turn .ensures) _ (c .before .before .before .before .refuse .ensures) refl (c .before .before .if1 .left) (c .if2 .taken)
+returns-2 c = request-accepts _ _ _ (c .before .before .before .before .before .turn .result) (c .before .before .before .before .before .turn .ensures) (c .before .before .if1 .left) (c .if2 .taken)
 
 after-requires : tie.Need-after-requires
 after-requires c κs = search needs
 
 returns-3 : tie.Need-returns-3
-returns-3 c = done-accepts _ _ _ (c .before .before .before .before .before .before .turn .result) (c .before .before .before .before .before .before .turn .ensures) _ (c .before .before .before .before .before .refuse .ensures) (c .before .before .before .if1 .left) (c .before .if2 .left) (c .after .ensures)
+returns-3 c = done-accepts _ _ _ (c .before .before .before .before .before .before .turn .result) (c .before .before .before .before .before .before .turn .ensures) (c .before .before .before .if1 .left) _ (c .before .if2 .left) (c .after .ensures)
 
 pub accept-spec : {M : Type 1} → statement M
-accept-spec = tie.close (tie.spec turn-requires refuse-requires returns returns-2 after-requires returns-3)
+accept-spec = tie.close (tie.spec turn-requires returns returns-2 after-requires returns-3)
