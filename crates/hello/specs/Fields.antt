@@ -143,7 +143,7 @@ abbrev pub brokenIn : {A : Type 0} → Parse A → ℕ
 brokenIn (malformed p) = p
 brokenIn (parsed f) = 0
 
--- the first fault, 10, 1, 2, 3: its number and, of 1 and 2, its place
+-- what is asked of a body: a fault of its layout before a repeat, wherever they stand in it, and a repeat before the version
 abbrev pub bodyTests : Form → Parse Hello → List (ℕ × ℕ × Bool)
 bodyTests k p =
     (1, brokenIn p, isMalformed p)
@@ -151,6 +151,7 @@ bodyTests k p =
     ∷ (3, 0, among false p (λ f. k .wrong (f .version)))
     ∷ []
 
+-- the first fault, 10, 1, 2, 3: its number and, of 1 and 2, its place
 unfoldable pub helloFault : Form → List ℕ → Fault
 helloFault k m = firstFault (headerTests (k .kind) m ++ bodyTests k (laidOut k m))
 

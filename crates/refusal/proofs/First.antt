@@ -72,3 +72,14 @@ unfolding firstFault
 fault-bare [] t z = refl
 fault-bare ((n, p, true) ∷ rest) t z = eqb-true p 0 (rw z at (and-left (placed n || eqb p 0) (bare rest) t))
 fault-bare ((n, p, false) ∷ rest) t z = fault-bare rest (and-right (placed n || eqb p 0) _ t) z
+
+-- no number of the list goes with a place: this too is computed
+abbrev pub unplaced : List (ℕ × Bool) → Bool
+unplaced [] = true
+unplaced ((n, b) ∷ rest) = not (placed n) && unplaced rest
+
+pub first-unplaced : (tests : List (ℕ × Bool)) → unplaced tests ≡ true → placed (firstOf tests) ≡ false
+unfolding firstOf
+first-unplaced [] t = refl
+first-unplaced ((n, true) ∷ rest) t = not-true _ (and-left (not (placed n)) _ t)
+first-unplaced ((n, false) ∷ rest) t = first-unplaced rest (and-right (not (placed n)) _ t)

@@ -1,28 +1,31 @@
 -- Every list of calls has a run, as specs/Demand3.antt states: for each book a table that keeps it, laid out as the code lays it out, and a
 -- step for each call.
 -- Assumes nothing.
-use mathlib.Core.Path.{_≡_, refl, sym, _∙_, ap₂}
-use mathlib.Core.Bool.{true, false}
+use mathlib.Core.Path.{_≡_, refl, sym, _∙_, ap, ap₂}
+use mathlib.Core.Bool.{Bool, true, false}
 use mathlib.Core.List.{List, [], _∷_, _++_, map}
 use mathlib.Core.Logic.{⊎-elim}
 use Prim.Native.Nat.{ℕ, _-_}
 use lib.Dec.{eqb}
 use lib.ListN.{length, take, replicate}
 use lib.Seq.{take-at}
-use borrow.Author.Tests.{ne-eqb}
-use Rattle.seqs.specs.Flag.{bit}
+use borrow.Author.Tests.{ne-eqb, eq-eqb}
+use Rattle.seqs.specs.Flag.{yes, bit}
 use Rattle.seqs.proofs.Flag.{yes-bit}
 use Rattle.seqs.specs.Pick.{pick}
 use Rattle.seqs.specs.Cases.{which}
 use Rattle.refusal.specs.Table.{refusalOf}
 use Rattle.refusal.specs.Listed.{row-number}
-use Rattle.sessions.specs.Book.{Session, Book, empty, storeNumber, lookUpNumber, withdrawNumber, Call, store, lookUp, withdraw, held, clear, after}
-use Rattle.sessions.specs.History.{Event}
+use Rattle.sessions.specs.Book.{Session, Book, empty, storeNumber, lookUpNumber, withdrawNumber, heldNumber, Call, store, lookUp, withdraw, held, clear, stored, looked, withdrew, counted, cleared, after}
+use Rattle.sessions.specs.History.{Event, History, callsOf}
 use Rattle.sessions.specs.Keeps.{sessionOf, bookOf, Sound, Keeps}
-use Rattle.sessions.specs.Promises.{Stores, lookedOf, outputOf, LooksUp, withdrawnOf, Withdraws, heldOf, CountsHeld, Clears}
-use Rattle.sessions.specs.Demand3.{Step, storing, looking, withdrawing, counting, clearing, done, next, Ran, Total}
+use Rattle.sessions.specs.Promises.{Starts, Stores, lookedOf, outputOf, LooksUp, withdrawnOf, Withdraws, heldOf, CountsHeld, Clears}
+use Rattle.sessions.specs.Demand3.{foundBy, Step, storing, looking, withdrawing, counting, clearing, Run, done, next, Ran, Total}
 use Rattle.sessions.specs.declared.entry.Entry.{Entry}
 use Rattle.sessions.specs.declared.table.Table.{Table}
+use Rattle.sessions.specs.declared.calls.Stored.{Stored}
+use Rattle.sessions.specs.declared.calls.Withdrawn.{Withdrawn}
+use Rattle.sessions.specs.declared.calls.Cleared.{Cleared}
 use Rattle.sessions.proofs.Sound.{sound-after, sound-empty}
 
 -- ---- a table that keeps a given book: 32 places, and 32 bytes for an identifier, with zeros behind what counts
