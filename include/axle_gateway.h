@@ -241,7 +241,7 @@ typedef struct {
  * first, so a hello that is malformed behind a repeat is 1.
  *
  * What it costs at most: every pair of extension types is compared. A ClientHello of 16,388 bytes with 4,085 extensions takes
- * 22 to 30 ms (docs/PERFORMANCE.md), so 33 to 45 of them a second fill a core. Only the caller can bound that, by the length
+ * 21 to 30 ms (docs/PERFORMANCE.md), so 33 to 47 of them a second fill a core. Only the caller can bound that, by the length
  * that an axle may send before it is known: 1.8 ms at 4,096 bytes, 0.5 ms at 2,048. A usual hello of 300 bytes takes 0.2 us. */
 AxleClientReading axle_read_client_hello(const uint8_t *message, size_t length);
 AxleServerReading axle_read_server_hello(const uint8_t *message, size_t length);
@@ -443,7 +443,7 @@ typedef struct {
  * from place 2 on, hands out the list for axle_write_server_hello. 11 for the axle; 10, 1, 2, 3 for the hello, with the place
  * that reading it answers; 9 or 5 for renegotiation; 6 for the master secret rule; last 10 where `out` is shorter than the reply.
  *
- * It reads the hello, so it costs what reading costs: 22 to 30 ms for 16,388 bytes with 4,085 extensions, and 33 to 45 of them
+ * It reads the hello, so it costs what reading costs: 21 to 30 ms for 16,388 bytes with 4,085 extensions, and 33 to 47 of them
  * a second fill a core. Bound the length that an axle may send before it is known. */
 AxleDecision axle_decide_server(const uint8_t *message, size_t length, uint8_t axle, AxleTable table, AxleConnection connection,
                                 AxleSwitches switches, uint8_t *out, size_t out_length);
