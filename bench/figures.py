@@ -138,6 +138,9 @@ def sessions(figures):
         "look-up in a full table, each session in turn",
         "store in a full table, the axle's own oldest goes",
         "store in a full table of 8, 8, 8, 8, 0, 0 by axle 6",
+        "store in an empty table",
+        "withdrawal from a full table, each session in turn",
+        "number held in a full table, each axle in turn",
     ]
     return contest(figures, "work", [(name, name, "") for name in works], LIBRARIES)
 

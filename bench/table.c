@@ -1,5 +1,6 @@
-/* The session table beside those of BearSSL (ssl_lru) and mbedTLS (ssl_cache), each with 32 places: look-up, store where every
- * place is taken, what is left of quiet axles, and how the cost grows with the number of sessions held. */
+/* The session table beside those of BearSSL (ssl_lru) and mbedTLS (ssl_cache), each with 32 sessions: look-up, store where there is
+ * no room, what is left of quiet axles, and how the cost grows with the number of sessions held. What the others do not do, or not
+ * aside, is timed beside an earlier build alone: a store in an empty table, withdrawal, number held. */
 #include "axle_gateway.h"
 #include "clock.h"
 
@@ -36,7 +37,15 @@ static void ours_store_aside(void)
     next = axle_table_store(table, axle, identifier, sizeof identifier, 1, secret, sizeof secret).table;
 }
 
-static void ours_held(void) { out[0] = axle_table_held(table, axle).count; }
+/* Likewise. */
+static int ours_withdraw_aside(void)
+{
+    AxleWithdrawn answer = axle_table_withdraw(table, axle, identifier, sizeof identifier);
+    next = answer.table;
+    return answer.withdrawn;
+}
+
+static int ours_held(void) { return axle_table_held(table, axle).count; }
 
 /* ---- BearSSL's: no axle, an identifier of 32 bytes ----------------------------------------------------------------- */
 
@@ -140,6 +149,15 @@ static void before_store_aside(void)
     earlier_next = before_axle_table_store(earlier, axle, identifier, sizeof identifier, 1, secret, sizeof secret).table;
 }
 
+static int before_withdraw_aside(void)
+{
+    before_AxleWithdrawn answer = before_axle_table_withdraw(earlier, axle, identifier, sizeof identifier);
+    earlier_next = answer.table;
+    return answer.withdrawn;
+}
+
+static int before_held(void) { return before_axle_table_held(earlier, axle).count; }
+
 static int before_found(void)
 {
     return before_axle_table_look_up(earlier, axle, identifier, sizeof identifier, out, sizeof out).found;
@@ -181,10 +199,17 @@ static void (*choose)(void);
 WORKS(ours)
 WORKS(bearssl)
 WORKS(mbedtls)
-static void ours_new_aside(void) { choose(), ours_store_aside(); }
+
+/* Those that only our builds do. */
+#define OUR_WORKS(who)                                                                             \
+    static void who##_new_aside(void) { choose(), who##_store_aside(); }                           \
+    static void who##_withdraw(void) { choose(), out[0] = (uint8_t)who##_withdraw_aside(); }       \
+    static void who##_number(void) { choose(), out[0] = (uint8_t)who##_held(); }
+
+OUR_WORKS(ours)
 #ifdef BEFORE
 WORKS(before)
-static void before_new_aside(void) { choose(), before_store_aside(); }
+OUR_WORKS(before)
 #define AND_BEFORE(work) , {"before", before_##work}
 #else
 #define AND_BEFORE(work)
@@ -198,6 +223,9 @@ static const contestant store[] = {
     {"this library", ours_new}, {"BearSSL", bearssl_new}, {"mbedTLS", mbedtls_new} AND_BEFORE(new)};
 static const contestant store_aside[] = {
     {"this library", ours_new_aside}, {"BearSSL", bearssl_new}, {"mbedTLS", mbedtls_new} AND_BEFORE(new_aside)};
+static const contestant store_ours[] = {{"this library", ours_new_aside} AND_BEFORE(new_aside)};
+static const contestant withdraw[] = {{"this library", ours_withdraw} AND_BEFORE(withdraw)};
+static const contestant number[] = {{"this library", ours_number} AND_BEFORE(number)};
 
 /* n sessions in each of them, of so many axles in turn. */
 static void fill(uint32_t n, uint8_t axles)
@@ -209,6 +237,18 @@ static void fill(uint32_t n, uint8_t axles)
     before_fill(n, axles);
 #endif
     newest = n;
+}
+
+/* Of the session at hand our builds say alike how many its axle holds, and that it is there to be withdrawn. */
+static void all_count(void)
+{
+    choose = same_again;
+    agreed("number held", number, COUNT(number), (answer){out, 1});
+    agreed("withdrawal", withdraw, COUNT(withdraw), (answer){out, 1});
+    if (out[0] != 1) {
+        fprintf(stderr, "bench: a session that was stored is not withdrawn\n");
+        exit(1);
+    }
 }
 
 /* The session at hand is found by all, with its secret. */
@@ -228,9 +268,12 @@ static void full(void)
     for (int i = 0; i < PLACES; i++) {
         each_held();
         all_find(look_up, COUNT(look_up));
+        all_count();
     }
     choose = each_held;
     side_by_side("look-up in a full table, each session in turn", NO_SIZE, look_up, COUNT(look_up));
+    side_by_side("withdrawal from a full table, each session in turn", NO_SIZE, withdraw, COUNT(withdraw));
+    side_by_side("number held in a full table, each axle in turn", NO_SIZE, number, COUNT(number));
     session(3, 99);
     all_find(found, COUNT(found));
     fill(PLACES, AXLE_AXLES);
@@ -239,6 +282,8 @@ static void full(void)
     fill(PLACES, 4);
     choose = new_of_sixth;
     side_by_side("store in a full table of 8, 8, 8, 8, 0, 0 by axle 6", NO_SIZE, store_aside, COUNT(store_aside));
+    fill(0, AXLE_AXLES);
+    side_by_side("store in an empty table", NO_SIZE, store_ours, COUNT(store_ours));
 }
 
 static void left(uint32_t quiet)
@@ -265,9 +310,9 @@ static void growth(void)
             all_find(look_up, COUNT(look_up));
         choose = same_again;
         side_by_side("look-up of the youngest", n, look_up, COUNT(look_up));
-        side_by_side("number held", n, (contestant[]){{"this library", ours_held}}, 1);
+        side_by_side("number held", n, number, 1);
         choose = new_of_sixth;
-        side_by_side("store by axle 6", n, store_aside, 1);
+        side_by_side("store by axle 6", n, store_ours, 1);
     }
 }
 

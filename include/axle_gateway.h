@@ -20,17 +20,19 @@
  * Threads. Nothing is shared between calls, so any number of threads may call at once, each on values of its own. A value
  * that two threads use (a state kept in place, a record, an output) wants the caller's lock, as any variable does.
  *
- * Wiping. The library wipes nothing. When done with them, a caller overwrites (axle_wipe): every AxleTable and every answer
- * with one in it; the secret that a look-up or a master secret call wrote to `out`; pre-master secrets and HMAC keys; AxleLog
- * and AxleExpected, which hold Finished values; AxleHash where what it took was secret. axle_table_clear empties what it
- * answers, not the table that was passed. A call also leaves copies on the stack below its caller, within AXLE_STACK_..
+ * Wiping. A table that began as axle_table_fresh has its sessions in it, and zeros in every other place: of a session that was
+ * withdrawn, replaced, pushed out or cleared, the table that is handed back holds no byte. The library wipes nothing else: the
+ * table that was passed still has that session. When done with them, a caller overwrites (axle_wipe): every AxleTable, older
+ * copies too, and every answer with one in it; the secret that a look-up or a master secret call wrote to `out`; pre-master
+ * secrets and HMAC keys; AxleLog and AxleExpected, which hold Finished values; AxleHash where what it took was secret. A call also
+ * leaves copies on the stack below its caller, within AXLE_STACK_..
  *
  * Processors. The archive and the shared library are for x86-64 (none of its extensions is needed) with the System V calling
  * convention and ELF: Linux and its like, 64 bits, static or position-independent. They link nowhere else. Of the C library
  * they need memcpy and memset alone, so a program without one brings these two.
  *
  * Stack. AXLE_STACK_.. at the end of this file has the bytes for each call. Answers lie in the caller's own frame, also those
- * that an _in function asks for: one with a table has some 2,700 bytes.
+ * that an _in function asks for: one with a table has 3,960 bytes.
  */
 #ifndef AXLE_GATEWAY_H
 #define AXLE_GATEWAY_H
@@ -47,10 +49,10 @@ extern "C" {
 /* The first number is 0 for as long as a struct or a call may change from one minor version to the next; a patch changes
  * neither. So the shared library's soname has the first two. tools/build reads the numbers here. */
 #define AXLE_GATEWAY_VERSION_MAJOR 0
-#define AXLE_GATEWAY_VERSION_MINOR 5
+#define AXLE_GATEWAY_VERSION_MINOR 6
 #define AXLE_GATEWAY_VERSION_PATCH 0
-#define AXLE_GATEWAY_VERSION "0.5.0"
-/* for #if: 500 is 0.5.0, 10203 is 1.2.3 */
+#define AXLE_GATEWAY_VERSION "0.6.0"
+/* for #if: 600 is 0.6.0, 10203 is 1.2.3 */
 #define AXLE_GATEWAY_VERSION_NUMBER \
     (AXLE_GATEWAY_VERSION_MAJOR * 10000 + AXLE_GATEWAY_VERSION_MINOR * 100 + AXLE_GATEWAY_VERSION_PATCH)
 
@@ -315,18 +317,23 @@ AxleWritten axle_write_server_hello(uint16_t version, const uint8_t *random, siz
 
 /* ---- The session table ------------------------------------------------------------------------------------------ */
 
+/* A place for a session, whose axle is that of the queue; zeros where there is none. */
 typedef struct {
-    uint8_t axle;
     uint8_t ems;
     uint8_t size;
     uint8_t identifier[32];
     uint8_t secret[48];
-} AxleEntry;
+} AxleRow;
 
-/* The sessions of all six axles, at most 8 an axle and 32 in all. */
+/* An axle's sessions, the oldest first: they are in the first `held` places. */
 typedef struct {
-    AxleEntry entries[32];
-    size_t len;
+    AxleRow rows[8];
+    uint8_t held;
+} AxleQueue;
+
+/* The sessions of all six axles, a queue for each, axle 1's first: at most 8 an axle and 32 in all. 3,942 bytes, no padding. */
+typedef struct {
+    AxleQueue queues[6];
 } AxleTable;
 
 typedef struct {
@@ -393,7 +400,7 @@ static inline AxleRefusal axle_table_withdraw_in(AxleTable *table, uint8_t axle,
     return answer.refusal;
 }
 
-/* How many sessions an axle holds. */
+/* How many sessions an axle holds: a number that the table keeps, so it costs the same however many there are. */
 AxleHeld axle_table_held(AxleTable table, uint8_t axle);
 
 /* Empties the table. */
@@ -553,13 +560,13 @@ enum {
     AXLE_STACK_WRITE_CLIENT_HELLO = 184,
     AXLE_STACK_WRITE_SERVER_HELLO = 192,
     AXLE_STACK_TABLE_FRESH = 8,
-    AXLE_STACK_TABLE_STORE = 10840,
-    AXLE_STACK_TABLE_LOOK_UP = 8120,
-    AXLE_STACK_TABLE_WITHDRAW = 8120,
-    AXLE_STACK_TABLE_HELD = 5368,
-    AXLE_STACK_TABLE_CLEAR = 5384,
+    AXLE_STACK_TABLE_STORE = 10104,
+    AXLE_STACK_TABLE_LOOK_UP = 5592,
+    AXLE_STACK_TABLE_WITHDRAW = 9320,
+    AXLE_STACK_TABLE_HELD = 3960,
+    AXLE_STACK_TABLE_CLEAR = 7944,
     AXLE_STACK_CONNECTION_FRESH = 8,
-    AXLE_STACK_DECIDE_SERVER = 8848,
+    AXLE_STACK_DECIDE_SERVER = 5880,
     AXLE_STACK_DECIDE_CLIENT = 752,
     AXLE_STACK_LOG_FRESH = 8,
     AXLE_STACK_LOG_ACCEPT = 1184,

@@ -163,12 +163,16 @@ write_server_hello = declare("axle_write_server_hello", Written, u16, BYTES, BYT
 # The session table
 
 
-class Entry(c.Structure):
-    _fields_ = [("axle", u8), ("ems", u8), ("size", u8), ("identifier", u8 * 32), ("secret", u8 * 48)]
+class Row(c.Structure):
+    _fields_ = [("ems", u8), ("size", u8), ("identifier", u8 * 32), ("secret", u8 * 48)]
+
+
+class Queue(c.Structure):
+    _fields_ = [("rows", Row * 8), ("held", u8)]
 
 
 class Table(c.Structure):
-    _fields_ = [("entries", Entry * 32), ("len", size)]
+    _fields_ = [("queues", Queue * 6)]
 
 
 class Stored(c.Structure):

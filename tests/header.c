@@ -1,6 +1,6 @@
 /* What include/axle_gateway.h says beside the calls: versions, sizes, parts of what is absent, places, NULL with length 0, the lists
- * of a writer, and the functions that keep a state in place. It is C99 and C++ at once; each case that is not so is a line, and the last
- * line counts them all. */
+ * of a writer, the functions that keep a state in place, and what a table has left of sessions given up. It is C99 and C++ at once;
+ * each case that is not so is a line, and the last line counts them all. */
 #include "axle_gateway.h"
 
 #include <stdio.h>
@@ -55,8 +55,8 @@ static size_t hello(uint8_t *to, uint8_t type, const uint8_t *rest, size_t lengt
 
 /* ---- Version and sizes ------------------------------------------------------------------------------------------- */
 
-#if AXLE_GATEWAY_VERSION_NUMBER < 500
-#error "older than 0.5.0"
+#if AXLE_GATEWAY_VERSION_NUMBER < 600
+#error "older than 0.6.0"
 #endif
 
 static void versions(void)
@@ -119,6 +119,8 @@ static void sizes(void)
     for (i = 0; i < 16; i++)
         axle_table_store_in(&table, 1, &i, 1, 0, secret, sizeof secret);
     IS(axle_table_held(table, 1).count == AXLE_SESSIONS_AN_AXLE);
+    IS(sizeof(AxleTable) == 3942 && sizeof(AxleTable) == AXLE_AXLES * (AXLE_SESSIONS_AN_AXLE * (2 + 32 + AXLE_SECRET_SIZE) + 1));
+    IS(sizeof(AxleStored) == 3960 && sizeof(AxleWithdrawn) == 3960 && sizeof(AxleCleared) == 3960);
     IS(sizeof axle_log_expected_finished(axle_log_fresh(), secret, sizeof secret).value == AXLE_VERIFY_DATA_SIZE);
 }
 
@@ -372,6 +374,34 @@ static void table_in_place(void)
     IS(axle_table_held(table, 1).count == 0 && axle_table_held(table, 6).count == 0);
 }
 
+/* Of a session that was pushed out, replaced, withdrawn or cleared no byte is left: the table is the one that it would be without. */
+static void given_up(void)
+{
+    const AxleTable fresh = axle_table_fresh();
+    AxleTable table = fresh, other = fresh, passed;
+    uint8_t i, first[AXLE_SECRET_SIZE], zeros[sizeof(AxleTable)] = {0};
+    memset(first, 255, sizeof first);
+    IS(same(&fresh, zeros, sizeof fresh));
+    for (i = 0; i < 9; i++) { /* the first one goes when the ninth comes */
+        axle_table_store_in(&table, 2, &i, 1, 1, i == 0 ? first : secret, sizeof secret);
+        if (i > 0)
+            axle_table_store_in(&other, 2, &i, 1, 1, secret, sizeof secret);
+    }
+    IS(same(&table, &other, sizeof table));
+    i = 8;
+    axle_table_store_in(&table, 2, &i, 1, 0, first, sizeof first);
+    axle_table_store_in(&table, 2, &i, 1, 1, secret, sizeof secret);
+    IS(same(&table, &other, sizeof table));
+    i = 4;
+    passed = table;
+    IS(axle_table_withdraw(table, 2, &i, 1).withdrawn == 1 && same(&table, &passed, sizeof table));
+    for (i = 0; i < 9; i++)
+        axle_table_withdraw_in(&table, 2, &i, 1, NULL);
+    IS(same(&table, &fresh, sizeof table));
+    axle_table_clear_in(&other);
+    IS(same(&other, &fresh, sizeof other));
+}
+
 /* In every field: the last one ends where the padding begins. */
 static int same_log(AxleLog a, AxleLog b)
 {
@@ -446,6 +476,7 @@ int main(void)
     nulls();
     hash_in_place();
     table_in_place();
+    given_up();
     log_in_place();
     wiping();
     printf("%d cases, %d wrong, version %s\n", cases, wrong, AXLE_GATEWAY_VERSION);

@@ -107,7 +107,9 @@ def drawn(r, name):
     if r.random() < 0.5:
         at = r.randrange(len(given))
         old = given[at]
-        given[at] = r.choice((None, r.randbytes(len(old)), old[:2] * (len(old) // 2))) if isinstance(old, bytes) else None
+        # of a list of types the last two ways make repeats
+        ways = (None, r.randbytes(len(old)), old[:2] * (len(old) // 2), old[-2:] + old[2:]) if isinstance(old, bytes) else (None,)
+        given[at] = r.choice(ways)
     return given
 
 

@@ -263,36 +263,50 @@ static void writers(void)
     written(1, 2, 1, AXLE_MALFORMED);
 }
 
-/* The table with n sessions, spread over the axles. */
-static AxleTable filled(size_t n)
+/* The table with n sessions, of so many axles in turn. */
+static AxleTable filled(size_t n, size_t axles)
 {
     AxleTable table = axle_table_fresh();
     for (size_t i = 0; i < n; i++) {
-        uint8_t name[2] = {(uint8_t)(i / 6), 7};
-        table = axle_table_store(table, (uint8_t)(1 + i % 6), name, 2, 1, bytes, 48).table;
+        uint8_t name[2] = {(uint8_t)(i / axles), 7};
+        table = axle_table_store(table, (uint8_t)(1 + i % axles), name, 2, 1, bytes, 48).table;
     }
     return table;
 }
 
+static void asked_of(AxleTable table)
+{
+    static const uint8_t held[2] = {0, 7}, youngest[2] = {7, 7}, none[2] = {99, 7};
+    for (uint8_t axle = 0; axle < 8; axle++) {
+        TRY(axle_table_store, table, axle, held, 2, 1, bytes, 48);
+        TRY(axle_table_store, table, axle, youngest, 2, 1, bytes, 48);
+        TRY(axle_table_store, table, axle, none, 2, 0, bytes, 48);
+        TRY(axle_table_store, table, axle, none, 2, 0, bytes, 47);
+        TRY(axle_table_look_up, table, axle, held, 2, out, sizeof out);
+        TRY(axle_table_look_up, table, axle, youngest, 2, out, sizeof out);
+        TRY(axle_table_look_up, table, axle, held, 2, out, 47);
+        TRY(axle_table_look_up, table, axle, none, 2, out, sizeof out);
+        TRY(axle_table_withdraw, table, axle, held, 2);
+        TRY(axle_table_withdraw, table, axle, youngest, 2);
+        TRY(axle_table_withdraw, table, axle, none, 2);
+        TRY(axle_table_held, table, axle);
+    }
+    TRY(axle_table_clear, table);
+}
+
+/* Every way of a store: the same name, the axle's oldest of 8, none, the axle's oldest of 4 to 7, the oldest of the fullest; and a
+ * table that no call made. */
 static void tables(void)
 {
-    static const size_t sizes[] = {0, 1, 31, 32, 40};
-    static const uint8_t held[2] = {0, 7}, none[2] = {99, 7};
+    static const size_t sizes[] = {0, 1, 31, 32, 40}, axles[] = {1, 4, 6};
+    AxleTable any;
     TRY(axle_table_fresh);
-    for (size_t i = 0; i < sizeof sizes / sizeof *sizes; i++) {
-        AxleTable table = filled(sizes[i]);
-        for (uint8_t axle = 0; axle < 8; axle++) {
-            TRY(axle_table_store, table, axle, held, 2, 1, bytes, 48);
-            TRY(axle_table_store, table, axle, none, 2, 0, bytes, 48);
-            TRY(axle_table_store, table, axle, none, 2, 0, bytes, 47);
-            TRY(axle_table_look_up, table, axle, held, 2, out, sizeof out);
-            TRY(axle_table_look_up, table, axle, held, 2, out, 47);
-            TRY(axle_table_look_up, table, axle, none, 2, out, sizeof out);
-            TRY(axle_table_withdraw, table, axle, held, 2);
-            TRY(axle_table_withdraw, table, axle, none, 2);
-            TRY(axle_table_held, table, axle);
-        }
-        TRY(axle_table_clear, table);
+    for (size_t i = 0; i < sizeof sizes / sizeof *sizes; i++)
+        for (size_t j = 0; j < sizeof axles / sizeof *axles; j++)
+            asked_of(filled(sizes[i], axles[j]));
+    for (int fill = 0; fill < 256; fill += 85) {
+        memset(&any, fill, sizeof any);
+        asked_of(any);
     }
 }
 

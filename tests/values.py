@@ -20,9 +20,8 @@ def length(r):
 STEERING = {
     (face.Refusal, "number"): lambda r: r.choice((0, 0, 0, r.randrange(13))),
     (face.Hash, "length"): length,
-    (face.Entry, "axle"): lambda r: r.randrange(8),
-    (face.Entry, "size"): lambda r: r.randrange(34),
-    (face.Table, "len"): lambda r: r.randrange(34),
+    (face.Row, "size"): lambda r: r.randrange(34),
+    (face.Queue, "held"): lambda r: r.randrange(10),
     (face.Log, "place"): lambda r: r.randrange(18),
     **{(face.Connection, name): flag for name in ("completed", "indication", "barred")},
     **{(face.Switches, name): flag for name in ("indication_required", "legacy_full", "legacy_resumption")},

@@ -119,8 +119,7 @@ pub struct Written {
 
 #[repr(C)]
 #[derive(Clone, Copy)]
-pub struct Entry {
-    pub axle: u8,
+pub struct Row {
     pub ems: u8,
     pub size: u8,
     pub identifier: [u8; 32],
@@ -129,9 +128,15 @@ pub struct Entry {
 
 #[repr(C)]
 #[derive(Clone, Copy)]
+pub struct Queue {
+    pub rows: [Row; 8],
+    pub held: u8,
+}
+
+#[repr(C)]
+#[derive(Clone, Copy)]
 pub struct Table {
-    pub entries: [Entry; 32],
-    pub len: usize,
+    pub queues: [Queue; 6],
 }
 
 #[repr(C)]

@@ -15,7 +15,8 @@ pub struct Session {
     pub secret: Secret,
 }
 
-/// The sessions of all six axles: at most 8 an axle and 32 in all.
+/// The sessions of all six axles: at most 8 an axle and 32 in all. Of a session that was pushed out, replaced, withdrawn or
+/// cleared it holds no byte.
 #[derive(Clone)]
 pub struct Table(pub(crate) Wiped<ffi::Table>);
 
@@ -85,7 +86,7 @@ impl Table {
         done(answer.refusal, answer.withdrawn != 0)
     }
 
-    /// How many sessions the axle holds. Refused as [`AxleOrIdentifier`](crate::Refusal::AxleOrIdentifier) for an axle not 1 to 6.
+    /// How many sessions the axle holds: a number that the table keeps, so nothing is counted. Refused as [`AxleOrIdentifier`](crate::Refusal::AxleOrIdentifier) for an axle not 1 to 6.
     pub fn held(&self, axle: u8) -> Result<u8> {
         // SAFETY: takes any value of the struct and touches no memory.
         let answer = unsafe { ffi::axle_table_held(*self.0, axle) };

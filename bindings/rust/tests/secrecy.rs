@@ -58,6 +58,37 @@ fn dropped_values_are_zeros() {
     assert!(left_by(marked_list()).iter().all(|byte| *byte != MARK));
 }
 
+/// Its bytes: `AxleTable` of the header, which has no padding.
+fn bytes_of(table: &Table) -> &[u8] {
+    // SAFETY: the bytes of a value that is borrowed for as long as they are.
+    unsafe { std::slice::from_raw_parts(std::ptr::from_ref(table).cast::<u8>(), size_of::<Table>()) }
+}
+
+#[test]
+fn sessions_given_up_are_gone() {
+    let marks = |table: &Table| bytes_of(table).iter().filter(|byte| **byte == MARK).count();
+    let (marked, other) = (Secret::from(SECRET), Secret::from([1; 48]));
+    assert_eq!(size_of::<Table>(), 3942);
+
+    let mut replaced = marked_table();
+    assert_eq!(marks(&replaced), 32 + 48);
+    replaced.store(1, &[MARK; 32], true, &other).unwrap();
+    assert_eq!(marks(&replaced), 32);
+
+    let mut pushed_out = marked_table();
+    for name in 0..SESSIONS_AN_AXLE as u8 {
+        pushed_out.store(1, &[name], true, &other).unwrap();
+    }
+    assert_eq!((marks(&pushed_out), pushed_out.held(1)), (0, Ok(8)));
+
+    let mut withdrawn = marked_table();
+    withdrawn.store(1, b"later", true, &marked).unwrap();
+    assert_eq!(withdrawn.withdraw(1, &[MARK; 32]), Ok(true));
+    assert_eq!(marks(&withdrawn), 48);
+    withdrawn.clear();
+    assert_eq!(marks(&withdrawn), 0);
+}
+
 #[test]
 fn debug_shows_no_secret() {
     let table = marked_table();

@@ -1,6 +1,6 @@
 -- The six exchanges of specs/Exchanges.antt, computed: both calls as their promises say, on a table that keeps the book.
 -- Assumes nothing.
-use mathlib.Core.Path.{_≡_, refl, sym, _∙_, subst}
+use mathlib.Core.Path.{_≡_, refl}
 use mathlib.Core.Bool.{Bool, true, false}
 use mathlib.Core.List.{List, [], _∷_}
 use mathlib.Core.Logic.{inl, inr}
@@ -14,13 +14,13 @@ use Rattle.message.specs.Numbers.{byteAt, pairAt, tripleAt}
 use Rattle.message.specs.Frame.{kindOf, bodyOf, overlong, cutOff, misstated, otherKind}
 use Rattle.hello.specs.Layout.{big, field, counted, vector}
 use Rattle.hello.specs.Extensions.{Extension, shaped, extension, listOf, extensionsOf, has, twice, contentOf, indicationOf}
-use Rattle.hello.specs.Fields.{Hello, fields, opening, closing, clientLayout, serverLayout, signalIn, helloFault, readClient, readServer}
+use Rattle.hello.specs.Fields.{Hello, Reading, fields, fault, opening, closing, clientLayout, serverLayout, signalIn, helloFault, readClient, readServer}
 use Rattle.hello.specs.Written.{writtenList, writtenBlock, behindMethod}
 use Rattle.sessions.specs.Book as book
-use Rattle.sessions.specs.Book.{Book, empty, store}
-use Rattle.sessions.specs.Keeps.{Sound, Keeps}
+use Rattle.sessions.specs.Book.{Book, empty, sought, store}
+use Rattle.sessions.specs.Keeps.{Sound, tableOf, Keeps}
 use Rattle.sessions.proofs.Sound.{sound-empty, sound-after}
-use Rattle.sessions.proofs.Total.{tableOf, keeps-table}
+use Rattle.sessions.proofs.Alike.{keeps-table, kept-sought}
 use Rattle.decision.specs.Connection.{freshConnection, closed, wrongFirst, decided, decision}
 use Rattle.decision.specs.Reply.{replyList, replyOf, offerOf, offerTurned}
 use Rattle.decision.specs.Server.{sessionIn, serverWrong, serverFlag, resumable, serverOutcome, serverReply, serverNumber, serverDecision, serverOutput, DecidedBy, ServerDecides}
@@ -28,6 +28,12 @@ use Rattle.decision.specs.Client.{clientDecision}
 use Rattle.decision.specs.Agreement.{OurHello, SameSession}
 use Rattle.decision.specs.Exchanges.{Case, strict, Meets, kept, laterConnection, firstFull, firstResumed, sessionWithoutEms, sessionLost, laterFull, laterResumed, Witnesses}
 use Rattle.decision.specs.declared.connection.Decision.{Decision}
+
+-- one book for another in which the same sessions are found
+session-alike : (r : Reading) (b b′ : Book) → ((a : ℕ) (i : List ℕ) → sought a i b ≡ sought a i b′) → sessionIn 3 r b ≡ sessionIn 3 r b′
+unfolding sessionIn
+session-alike (fields h) b b′ e = rw (e 3 (h .identifier))
+session-alike (fault n p) b b′ e = refl
 
 -- the server's call as the definition has it
 module _ (k : Case) where
@@ -40,8 +46,8 @@ module _ (k : Case) where
   module _ (sound : Sound (k .book)) (accepts : answered .refusal .number ≡ 0) where
     by-book : (b : Book) → Keeps (tableOf (k .book)) b → DecidedBy 3 (readClient (k .hello)) b (k .connection) strict (replicate 35 0) answered written
     by-book b w =
-        let e : k .book ≡ b = sym (keeps-table (k .book) sound .book) ∙ w .book in
-        subst (λ (x : Book). DecidedBy 3 (readClient (k .hello)) x (k .connection) strict (replicate 35 0) answered written) e (record { answer = refl; output = refl })
+        let e = session-alike (readClient (k .hello)) b (k .book) (kept-sought (tableOf (k .book)) b (k .book) w (keeps-table (k .book) sound)) in
+        record { answer = rw e; output = rw e }
 
     served : ServerDecides (tableOf (k .book)) 3 (readClient (k .hello)) (k .connection) strict (replicate 35 0) answered written
     served =

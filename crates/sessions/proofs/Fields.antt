@@ -1,38 +1,52 @@
--- An entry and its session: the bytes of an entry are put and read as the session has them.
+-- A row and its session: the bytes of a row are put and read as the session has them.
 -- Assumes nothing.
-use mathlib.Core.Path.{_≡_}
-use mathlib.Core.Bool.{Bool, false}
-use mathlib.Core.List.{List, append-nil}
-use Prim.Native.Nat.{ℕ, _≤_}
+use mathlib.Core.Path.{_≡_, refl, sym, _∙_, ap}
+use mathlib.Core.Bool.{Bool, true}
+use mathlib.Core.List.{List, _++_, append-nil}
+use mathlib.Core.Option.{none, some}
+use Prim.Native.Nat.{ℕ, _-_, _≤_}
 use native.Mathlib.Omega.{arith}
-use lib.ListN.{length, take, drop-of-length-le}
-use lib.Seq.{take-append-seam}
+use lib.ListN.{length, take, replicate, drop-of-length-le}
 use borrow.Author.Tests.{le-leb, eq-eqb, ne-eqb}
 use Rattle.seqs.proofs.Cut.{take-measure}
-use Rattle.seqs.specs.Flag.{yes}
+use Rattle.seqs.proofs.Zeros.{drop-zeros}
+use Rattle.seqs.specs.Flag.{bit}
 use Rattle.octets.specs.Put.{putList}
 use Rattle.octets.specs.Same.{same}
 use Rattle.sessions.specs.Book.{isName, isNamed}
-use Rattle.sessions.specs.Keeps.{sessionOf}
-use Rattle.sessions.specs.declared.entry.Entry.{Entry}
+use Rattle.sessions.specs.Keeps.{rowOf, noSession, sessionOf}
+use Rattle.sessions.specs.Places.{sessionIn}
+use Rattle.sessions.specs.declared.row.Row.{Row}
+use Rattle.sessions.proofs.Names.{named-name, name-identifier}
 
-put-front : (d s : List ℕ) → length s ≤ length d → take (length s) (putList d s) ≡ s
-put-front d s h = rw (le-leb (length s) (length d) h, take-append-seam)
+put-zeros : (i : List ℕ) → length i ≤ 32 → putList (replicate 32 0) i ≡ i ++ replicate (32 - length i) 0
+put-zeros i h = rw (le-leb (length i) 32 h, drop-zeros (length i) 32)
 
 put-whole : (d s : List ℕ) → length s ≡ length d → putList d s ≡ s
 put-whole d s e = rw (le-leb (length s) (length d) (omega arith), drop-of-length-le d {i = length s} (omega arith), append-nil)
 
--- an entry that was put together: the identifier over 32 bytes, the secret over 48
-pub entry-is : (a f : ℕ) (e : Bool) (i s n k d₁ d₂ : List ℕ) → yes f ≡ e → n ≡ putList d₁ i → length i ≤ length d₁ → k ≡ putList d₂ s → length s ≡ length d₂
-    → sessionOf (record { axle = a; ems = f; size = length i; identifier = n; secret = k }) ≡ record { axle = a; identifier = i; ems = e; secret = s }
-unfolding sessionOf
-entry-is a f e i s n k d₁ d₂ p q h r l = rw (p, q, r, put-front d₁ i h, put-whole d₂ s l)
+-- a row that was put together: identifier and secret over zeros
+pub row-is : (a f : ℕ) (e : Bool) (i s n k : List ℕ) → f ≡ bit e → n ≡ putList (replicate 32 0) i → length i ≤ 32 → k ≡ putList (replicate 48 0) s → length s ≡ 48
+    → _≡_ {A = Row} (record { ems = f; size = length i; identifier = n; secret = k }) (rowOf (record { axle = a; identifier = i; ems = e; secret = s }))
+unfolding rowOf
+row-is a f e i s n k p q h r l = rw (p, q, r, put-zeros i h, put-whole (replicate 48 0) s l)
 
-module _ (a : ℕ) (i : List ℕ) (r : Entry) where
-  pub other-axle : (r .axle ≡ a → ⊥) → isNamed a i (sessionOf r) ≡ false
+module _ (a : ℕ) (i : List ℕ) (r : Row) where
+  -- by its first n bytes
+  pub named-bytes : (n : ℕ) → n ≡ length (take (r .size) (r .identifier)) → isNamed a i (sessionOf a r) ≡ same (take n (r .identifier)) i
   unfolding isNamed isName sessionOf
-  other-axle n = rw (ne-eqb (r .axle) a n)
+  named-bytes n w = rw (eq-eqb a a refl, w, take-measure (r .size) (r .identifier))
 
-  pub that-axle : (n : ℕ) → n ≡ length (take (r .size) (r .identifier)) → r .axle ≡ a → isNamed a i (sessionOf r) ≡ same (take n (r .identifier)) i
-  unfolding isNamed isName sessionOf
-  that-axle n w e = rw (eq-eqb (r .axle) a e, w, take-measure (r .size) (r .identifier))
+  -- a row with a name is not blank
+  pub named-in : 1 ≤ length i → isNamed a i (sessionOf a r) ≡ true → sessionIn a r ≡ some (sessionOf a r)
+  unfolding sessionIn sessionOf
+  named-in h e =
+      let t : take (r .size) (r .identifier) ≡ i = name-identifier a i a (take (r .size) (r .identifier)) (named-name a i (sessionOf a r) e) in
+      let z : r .size ≡ 0 → ⊥ =
+      λ z. let n : length i ≡ 0 = ap length (sym t) ∙ ap (λ (k : ℕ). length (take k (r .identifier))) z in absurd (omega arith) in
+      rw (ne-eqb (r .size) 0 z)
+
+-- a blank one holds none
+pub none-in : (a : ℕ) → sessionIn a noSession ≡ none
+unfolding sessionIn noSession
+none-in a = refl

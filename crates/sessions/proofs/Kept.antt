@@ -1,55 +1,112 @@
--- The promises of the calls, from what the functions behind them ensure of the book that is in the table.
+-- The promises of the calls, from what the functions behind them ensure of the axle's queue.
 -- Assumes nothing.
 use mathlib.Core.Path.{_≡_, refl, sym, _∙_, ap}
 use mathlib.Core.Bool.{Bool, true, false}
 use mathlib.Core.List.{List, [], _∷_, _++_}
 use mathlib.Core.Logic.{⊎-elim}
-use mathlib.Core.Option.{some}
-use Prim.Native.Nat.{ℕ, _≤_, _<_}
+use mathlib.Core.Option.{Option, none, some}
+use Prim.Native.Nat.{ℕ, zero, suc, _≤_, _<_}
 use native.Mathlib.Omega.{arith}
-use lib.Dec.{leb, ltb}
-use lib.ListN.{length, getD}
-use borrow.Author.Tests.{ltb-true, ltb-false, leb-true, leb-false, eq-eqb, ne-eqb}
+use lib.Dec.{eqb, leb, ltb}
+use lib.ListN.{length, getD, set, replicate}
+use borrow.Author.Tests.{eqb-true, eqb-false, ltb-true, ltb-false, leb-true, leb-false, eq-eqb, ne-eqb}
 use Rattle.seqs.specs.Cut.{cut}
 use Rattle.seqs.proofs.Cut.{cut-past}
 use Rattle.seqs.specs.Flag.{yes, bit}
+use Rattle.seqs.specs.Pick.{pick}
+use Rattle.refusal.specs.First.{firstOf}
 use Rattle.refusal.specs.Table.{refusalOf}
 use Rattle.refusal.specs.declared.Refusal.{Refusal}
 use Rattle.octets.specs.Put.{putNumber, putList}
 use Rattle.refusal.specs.Listed.{row-number}
-use Rattle.seqs.specs.Cases.{which}
-use Rattle.sessions.specs.Book.{Session, Book, empty, isNamed, holds, sought, struck, written, badAxle, badName, storeNumber, lookUpNumber, store, withdraw, after}
-use Rattle.sessions.specs.Keeps.{Formed, sessionOf, bookOf, Keeps}
-use Rattle.sessions.specs.Places.{place}
-use Rattle.sessions.specs.Promises.{Stores, lookedOf, outputOf, LookedUp, LooksUp, withdrawnOf, Withdraws, heldOf, CountsHeld, knownOf, Knows}
-use Rattle.sessions.specs.declared.entry.Entry.{Entry}
+use Rattle.seqs.specs.Cases.{which, not-both}
+use Rattle.sessions.specs.Book.{Session, Book, empty, many, oldest, strike, there, isOf, isNamed, holds, sought, struck, written, badAxle, badName, storeNumber, lookUpNumber, withdrawNumber, granted, store, withdraw, after}
+use Rattle.sessions.specs.Keeps.{Formed, Each, Sound, partOf, rowOf, laid, six, tableOf, Keeps, sessionOf, sessionsOf, queueOf, heldIn}
+use Rattle.sessions.specs.Places.{place, sessionIn, Goes}
+use Rattle.sessions.specs.Promises.{Stores, lookedOf, outputOf, LookedUp, LooksUp, withdrawnOf, Withdraws, heldOf, CountsHeld, Knows}
+use Rattle.sessions.specs.declared.row.Row.{Row}
+use Rattle.sessions.specs.declared.queue.Queue.{Queue}
 use Rattle.sessions.specs.declared.table.Table.{Table}
 use Rattle.sessions.specs.declared.calls.Looked.{Looked}
-use Rattle.sessions.specs.declared.calls.Held.{Held}
-use Rattle.sessions.specs.declared.calls.Known.{Known}
 use Rattle.sessions.specs.declared.calls.Known.the-variants.{Nothing, WithoutEms, WithEms}
-use Rattle.sessions.proofs.Numbers.{withdraw-11, withdraw-0, look-11, look-none, look-10, look-0, held-11, held-0}
-use Rattle.sessions.proofs.Places.{noEntry, book-at, place-strike, place-oldest, place-none}
-use Rattle.sessions.proofs.Sound.{good-store, sound-empty, sound-after, struck-fits}
+use Rattle.sessions.proofs.Names.{name-axle, name-identifier, named-name, named-of, of-axle, of-other}
+use Rattle.sessions.proofs.Numbers.{axle-good, name-good, look-11, look-none, look-10, look-0, held-11, held-0}
+use Rattle.sessions.proofs.Parts.{part-length, part-last, part-sought, part-goes}
+use Rattle.sessions.proofs.Places.{place-strike, place-oldest, place-none}
+use Rattle.sessions.proofs.Queues.{six-at, six-read, six-set, six-same, queues-are, laid-at, sessions-at, queue-sessions, queue-held, numbers-are}
+use Rattle.sessions.proofs.Sound.{good-name, good-store, sound-empty, sound-after, struck-seven}
+use Rattle.sessions.proofs.Struck.{struck-is}
 
 -- ---- an empty table
 
-pub keeps-empty : (t : Table) → bookOf t ≡ empty → Keeps t empty
-keeps-empty t e = record { book = e; sound = sound-empty }
+pub keeps-empty : (t : Table) → t ≡ tableOf empty → Keeps t empty
+keeps-empty t e = record { table = e; sound = sound-empty }
+
+-- ---- one session goes
+
+-- the queue at `from` without the session at place k: each is its axle's part of the book b′
+queues-less : (t : Table) (b b′ : Book) (from k : ℕ) (q : Queue) → t ≡ tableOf b → from < 6
+    → ((c : ℕ) → partOf c b′ ≡ pick (eqb c (suc from)) (cut k (partOf c b)) (partOf c b)) → q ≡ laid (cut k (partOf (suc from) b))
+    → set (t .queues) from q ≡ six (λ c. laid (partOf c b′))
+queues-less t b b′ from k q e h goes gone =
+    let one : (c : ℕ) → pick (eqb c (suc from)) q (laid (partOf c b)) ≡ laid (partOf c b′) =
+    λ c.
+    ⊎-elim
+    (λ (y : eqb c (suc from) ≡ true). rw (goes c, y, eqb-true c (suc from) y) gone)
+    (λ (n : eqb c (suc from) ≡ false). rw (goes c, n))
+    (which (eqb c (suc from))) in
+    rw (queues-are t b e) (six-set (λ c. laid (partOf c b)) from q h ∙ six-same (λ c. pick (eqb c (suc from)) q (laid (partOf c b))) (λ c. laid (partOf c b′)) one)
 
 -- ---- store
 
--- there is room once one is gone: the place is one of the 32
-cut-room : (at : ℕ) (b : Book) → at ≤ length b → length (cut at b) ≤ 31 → length b ≤ 32 → at < 32
-cut-room at b h r l =
-    ⊎-elim
-    (λ (y : ltb at (length b) ≡ true). omega (arith, ltb-true at (length b) y))
-    (λ (y : ltb at (length b) ≡ false). let r′ : length b ≤ 31 = rw (cut-past at b (ltb-false at (length b) y)) at r in omega arith)
-    (which (ltb at (length b)))
-
--- not refused: the lengths that an entry has room for
+-- not refused: the lengths that a place has room for
 pub stored-formed : (s : Session) (n : ℕ) → n ≡ storeNumber s → n ≡ 0 → Formed s
 stored-formed s n num z = good-store s (eq-eqb (storeNumber s) 0 (sym num ∙ z))
+
+-- the new session comes last in the queue at `own`
+queues-more : (qs : List Queue) (b′ : Book) (s : Session) (own : ℕ) (q : Queue) → qs ≡ six (λ c. laid (partOf c b′)) → own < 6 → suc own ≡ s .axle
+    → q ≡ laid (partOf (suc own) b′ ++ (s ∷ [])) → set qs own q ≡ six (λ c. laid (partOf c (b′ ++ (s ∷ []))))
+queues-more qs b′ s own q e h is comes =
+    let one : (c : ℕ) → pick (eqb c (suc own)) q (laid (partOf c b′)) ≡ laid (partOf c (b′ ++ (s ∷ []))) =
+    λ c.
+    ⊎-elim
+    (λ (y : eqb c (suc own) ≡ true). rw (part-last c b′ s, y, of-axle c s (sym is ∙ sym (eqb-true c (suc own) y)), eqb-true c (suc own) y) comes)
+    (λ (n : eqb c (suc own) ≡ false). rw (part-last c b′ s, n, of-other c s (λ g. eqb-false c (suc own) n (sym g ∙ sym is))))
+    (which (eqb c (suc own))) in
+    rw e (six-set (λ c. laid (partOf c b′)) own q h ∙ six-same (λ c. pick (eqb c (suc own)) q (laid (partOf c b′))) (λ c. laid (partOf c (b′ ++ (s ∷ [])))) one)
+
+-- which one goes is known of every book that the table keeps
+pub which-goes : (t : Table) (i : List ℕ) (own from place total : ℕ) (d : Queue) (full : Bool) (numbers : List ℕ) → own < 6
+    → ((b : Book) → t ≡ tableOf b → Sound b → total ≡ length b) → full ≡ leb 32 total → numbers ≡ six (heldIn t)
+    → ((b : Book) → sessionsOf (suc own) (getD (t .queues) own d) ≡ partOf (suc own) b → full ≡ leb 32 (length b) → numbers ≡ six (λ a. holds a b) → Sound b → Goes (suc own) i b (suc from) place)
+    → (b : Book) → Keeps t b → Goes (suc own) i b (suc from) place
+which-goes t i own from place total d full numbers own-six all fulls held goes b k =
+    let e = k .table in
+    goes b (sessions-at t b e own d own-six) (fulls ∙ ap (leb 32) (all b e (k .sound))) (held ∙ numbers-are t b e) (k .sound)
+
+-- the queues without it: each is its axle's part of what the store has left
+module _ (t : Table) (i : List ℕ) (own from place : ℕ) (from-six : from < 6) (goes : (b : Book) → Keeps t b → Goes (suc own) i b (suc from) place) where
+  pub one-goes : (d less : Queue) → ((b : Book) → getD (t .queues) from d ≡ laid b → length b ≤ 8 → less ≡ laid (cut place b))
+      → (b : Book) → Keeps t b → set (t .queues) from less ≡ six (λ c. laid (partOf c (struck (suc own) i b)))
+  one-goes d less gone b k =
+      let e = k .table in
+      let eight : length (partOf (suc from) b) ≤ 8 = rw (part-length (suc from) b) (k .sound .eight (suc from)) in
+      queues-less t b (struck (suc own) i b) from place less e from-six (goes b k) (gone (partOf (suc from) b) (laid-at t b e from d from-six) eight)
+
+  -- the place is past the queue's end
+  pub none-goes : (numbers : List ℕ) → numbers ≡ six (heldIn t) → getD numbers from 0 ≤ place
+      → (b : Book) → Keeps t b → t .queues ≡ six (λ c. laid (partOf c (struck (suc own) i b)))
+  none-goes numbers held h b k =
+      let e = k .table in
+      let n : getD numbers from 0 ≡ holds (suc from) b = six-read (λ a. holds a b) numbers from 0 (held ∙ numbers-are t b e) from-six in
+      let past : cut place (partOf (suc from) b) ≡ partOf (suc from) b = cut-past place (partOf (suc from) b) (omega (arith, n, h, part-length (suc from) b)) in
+      queues-are t b e
+      ∙ six-same (λ c. laid (partOf c b)) (λ c. laid (partOf c (struck (suc own) i b)))
+      (λ c.
+      ⊎-elim
+      (λ (y : eqb c (suc from) ≡ true). rw (goes b k c, y, eqb-true c (suc from) y, past))
+      (λ (m : eqb c (suc from) ≡ false). rw (goes b k c, m))
+      (which (eqb c (suc from))))
 
 module _ (t : Table) (s : Session) (n : ℕ) (f : Refusal) (num : n ≡ storeNumber s) (ref : f ≡ refusalOf n) where
   pub stores-refused : (n ≡ 0 → ⊥) → Stores t s (record { refusal = f; table = t })
@@ -61,49 +118,44 @@ module _ (t : Table) (s : Session) (n : ℕ) (f : Refusal) (num : n ≡ storeNum
         keeps = λ b k. rw (← num, ne-eqb n 0 z) k;
       }
 
-  module _ (at : ℕ) (entry : Entry) (t₂ : Table) (is : sessionOf entry ≡ s) (goes : cut at (bookOf t) ≡ struck (s .axle) (s .identifier) (bookOf t))
-      (within : at ≤ length (bookOf t)) (last : at < 32 → at ≤ length (bookOf t) → bookOf t₂ ≡ cut at (bookOf t) ++ (sessionOf entry ∷ [])) where
-    stores-book : n ≡ 0 → (b : Book) → Keeps t b → bookOf t₂ ≡ after b (store s)
-    unfolding after written
-    stores-book z b k =
-        let left : cut at (bookOf t) ≡ struck (s .axle) (s .identifier) b = goes ∙ ap (struck (s .axle) (s .identifier)) (k .book) in
-        let room : length (cut at (bookOf t)) ≤ 31 = rw left (struck-fits (s .axle) (s .identifier) b (k .sound)) in
-        let all : length (bookOf t) ≤ 32 = rw (k .book) (k .sound .thirty-two) in
-        last (cut-room at (bookOf t) within room all) within ∙ (rw (left, is, ← num, z))
+  -- one has gone, if any, and the new one is written last
+  module _ (own : ℕ) (d : Queue) (is : suc own ≡ s .axle) (own-six : own < 6) (t₁ : Table)
+      (left : (b : Book) → Keeps t b → t₁ .queues ≡ six (λ c. laid (partOf c (struck (suc own) (s .identifier) b)))) (row : Row) (as-row : row ≡ rowOf s)
+      (more : Queue) (comes : (b : Book) (x : Session) → getD (t₁ .queues) own d ≡ laid b → row ≡ rowOf x → length b ≤ 7 → more ≡ laid (b ++ (x ∷ []))) where
+    stores-queues : (b : Book) → Keeps t b → set (t₁ .queues) own more ≡ six (λ c. laid (partOf c (written s b)))
+    unfolding written
+    stores-queues b k =
+        let b′ = struck (suc own) (s .identifier) b in
+        let at-own : getD (t₁ .queues) own d ≡ laid (partOf (suc own) b′) = rw (left b k) (six-at (λ c. laid (partOf c b′)) own d own-six) in
+        let seven : length (partOf (suc own) b′) ≤ 7 =
+        rw (part-length (suc own) b′) (struck-seven (suc own) (s .identifier) b b′ (k .sound) (struck-is (suc own) (s .identifier) b)) in
+        queues-more (t₁ .queues) b′ s own more (left b k) own-six is (comes (partOf (suc own) b′) s at-own as-row seven)
+        ∙ ap (λ (a : ℕ). six (λ c. laid (partOf c (struck a (s .identifier) b ++ (s ∷ []))))) is
 
-    pub stores-done : n ≡ 0 → Stores t s (record { refusal = f; table = t₂ })
+    pub stores-done : n ≡ 0 → Stores t s (record { refusal = f; table = record { queues = set (t₁ .queues) own more } })
+    unfolding tableOf after
     stores-done z =
         record {
           refusal = ref ∙ ap refusalOf num;
           refused = λ w. absurd (w (rw (ref, row-number n) z));
-          keeps = λ b k. record { book = stores-book z b k; sound = sound-after b (store s) (k .sound) };
+          keeps = λ b k. record { table = rw (← num, z, stores-queues b k); sound = sound-after b (store s) (k .sound) };
         }
 
 -- ---- look-up
 
-pub looks-up : (t : Table) (a : ℕ) (i out : List ℕ) (r : Looked) (out′ : List ℕ) → LookedUp a i out (bookOf t) r out′ → LooksUp t a i out r out′
-unfolding lookedOf outputOf
-looks-up t a i out r out′ p =
-    record {
-      book = bookOf t;
-      of-book = p;
-      refused = λ w.
-          let n = lookUpNumber a i out (bookOf t) in
-          let z : n ≡ 0 → ⊥ = λ e. w (rw (p .returned, row-number n) e) in
-          p .output ∙ (rw (ne-eqb n 0 z));
-      answers = λ b k. rw (k .book) at p;
-    }
+-- the book's answers about a name are those of the axle's queue
+seen : (t : Table) (a : ℕ) (i : List ℕ) (b : Book) → badName a i ≡ false → Keeps t b → sought a i b ≡ sought a i (queueOf t a)
+seen t a i b good k =
+    let g = good-name a i good in
+    sym (part-sought a i b) ∙ ap (sought a i) (sym (queue-sessions t b (k .table) a (g .0) (g .1)))
 
--- the session at the place that the search answered
-found-entry : (t : Table) (a : ℕ) (i : List ℕ) (at : ℕ) → at ≡ place (isNamed a i) (bookOf t) → at < length (bookOf t)
-    → sought a i (bookOf t) ≡ some (sessionOf (getD (t .entries) at noEntry))
-found-entry t a i at is in-book =
-    place-oldest (isNamed a i) (bookOf t) (rw is at in-book)
-    ∙ ap some (rw (← is) (book-at t at in-book))
+looked-same : (a : ℕ) (i out : List ℕ) (b b′ : Book) (r : Looked) (out′ : List ℕ) → sought a i b ≡ sought a i b′ → LookedUp a i out b′ r out′ → LookedUp a i out b r out′
+unfolding lookedOf outputOf lookUpNumber
+looked-same a i out b b′ r out′ e p = record { returned = rw e (p .returned); output = rw e (p .output) }
 
 -- its secret is put to the output, or not
-module _ (a : ℕ) (i out : List ℕ) (b : Book) (f : Refusal) (r : Entry) (n : ℕ) (out′ : List ℕ) (good : badName a i ≡ false)
-    (found : sought a i b ≡ some (sessionOf r)) (put : n ≡ putNumber out (r .secret)) (puts : out′ ≡ putList out (r .secret)) (ref : f ≡ refusalOf n) where
+module _ (a : ℕ) (i out : List ℕ) (b : Book) (f : Refusal) (r : Row) (n : ℕ) (out′ : List ℕ) (good : badName a i ≡ false)
+    (found : sought a i b ≡ some (sessionOf a r)) (put : n ≡ putNumber out (r .secret)) (puts : out′ ≡ putList out (r .secret)) (ref : f ≡ refusalOf n) where
   looked-10 : (n ≡ 0 → ⊥) → LookedUp a i out b (record { refusal = f; found = 0; ems = 0 }) out′
   unfolding lookedOf outputOf sessionOf
   looked-10 z =
@@ -111,7 +163,7 @@ module _ (a : ℕ) (i out : List ℕ) (b : Book) (f : Refusal) (r : Entry) (n : 
       (λ (y : leb (length (r .secret)) (length out) ≡ true). absurd (z (put ∙ (rw y))))
       (λ (y : leb (length (r .secret)) (length out) ≡ false).
       let ten : n ≡ 10 = put ∙ (rw y) in
-      let num = look-10 a i out b (sessionOf r) good found (leb-false (length (r .secret)) (length out) y) in
+      let num = look-10 a i out b (sessionOf a r) good found (leb-false (length (r .secret)) (length out) y) in
       record { returned = rw (← num, ref, ten); output = puts ∙ (rw (y, ← num)) })
       (which (leb (length (r .secret)) (length out)))
 
@@ -120,115 +172,197 @@ module _ (a : ℕ) (i out : List ℕ) (b : Book) (f : Refusal) (r : Entry) (n : 
   looked-0 z =
       ⊎-elim
       (λ (y : leb (length (r .secret)) (length out) ≡ true).
-      let num = look-0 a i out b (sessionOf r) good found (leb-true (length (r .secret)) (length out) y) in
+      let num = look-0 a i out b (sessionOf a r) good found (leb-true (length (r .secret)) (length out) y) in
       record { returned = rw (← num, ref, z, found); output = puts ∙ (rw (← num, found)) })
       (λ (y : leb (length (r .secret)) (length out) ≡ false). let ten : n ≡ 10 = put ∙ (rw y) in absurd (omega arith))
       (which (leb (length (r .secret)) (length out)))
 
+looked-11 : (a : ℕ) (i out : List ℕ) (f : Refusal) → badName a i ≡ true → f ≡ refusalOf 11 → (b : Book) → LookedUp a i out b (record { refusal = f; found = 0; ems = 0 }) out
+unfolding lookedOf outputOf
+looked-11 a i out f h e b = record { returned = rw (← look-11 a i out b h, e); output = rw (← look-11 a i out b h) }
+
+looked-none : (a : ℕ) (i out : List ℕ) (f : Refusal) (b : Book) → badName a i ≡ false → sought a i b ≡ none → f ≡ refusalOf 0
+    → LookedUp a i out b (record { refusal = f; found = 0; ems = 0 }) out
+unfolding lookedOf outputOf
+looked-none a i out f b good z e = record { returned = rw (← look-none a i out b good z, z, e); output = rw (← look-none a i out b good z, z) }
+
+nothing-written : (a : ℕ) (i out : List ℕ) (b : Book) (r : Looked) (out′ : List ℕ) → LookedUp a i out b r out′ → (r .refusal .number ≡ 0 → ⊥) → out′ ≡ out
+unfolding lookedOf outputOf
+nothing-written a i out b r out′ p w =
+    let n = lookUpNumber a i out b in
+    let z : n ≡ 0 → ⊥ = λ e. w (rw (p .returned, row-number n) e) in
+    p .output ∙ (rw (ne-eqb n 0 z))
+
+-- a blank place is none
+blank-none : (a : ℕ) (r : Row) → r .size ≡ 0 → sessionIn a r ≡ none
+unfolding sessionIn
+blank-none a r e = rw e
+
+taken-some : (a : ℕ) (r : Row) → (r .size ≡ 0 → ⊥) → sessionIn a r ≡ some (sessionOf a r)
+unfolding sessionIn
+taken-some a r n = rw (ne-eqb (r .size) 0 n)
+
 module _ (t : Table) (a : ℕ) (i out : List ℕ) (f : Refusal) where
   pub looks-11 : badName a i ≡ true → f ≡ refusalOf 11 → LooksUp t a i out (record { refusal = f; found = 0; ems = 0 }) out
-  unfolding lookedOf outputOf
-  looks-11 h e =
-      looks-up t a i out (record { refusal = f; found = 0; ems = 0 }) out
-      (record { returned = rw (← look-11 a i out (bookOf t) h, e); output = rw (← look-11 a i out (bookOf t) h) })
+  looks-11 h e = record { book = empty; of-book = looked-11 a i out f h e empty; refused = λ w. refl; answers = λ b k. looked-11 a i out f h e b }
 
   module _ (good : badName a i ≡ false) where
-    pub looks-none : length (bookOf t) ≤ place (isNamed a i) (bookOf t) → f ≡ refusalOf 0 → LooksUp t a i out (record { refusal = f; found = 0; ems = 0 }) out
-    unfolding lookedOf outputOf
-    looks-none h e =
-        let z = place-none (isNamed a i) (bookOf t) h in
-        looks-up t a i out (record { refusal = f; found = 0; ems = 0 }) out
-        (record { returned = rw (← look-none a i out (bookOf t) good z, z, e); output = rw (← look-none a i out (bookOf t) good z, z) })
+    looks-up : (r : Looked) (out′ : List ℕ) → LookedUp a i out (queueOf t a) r out′ → LooksUp t a i out r out′
+    looks-up r out′ p =
+        record {
+          book = queueOf t a;
+          of-book = p;
+          refused = nothing-written a i out (queueOf t a) r out′ p;
+          answers = λ b k. looked-same a i out b (queueOf t a) r out′ (seen t a i b good k) p;
+        }
 
-    -- a session is found at a place
-    module _ (at : ℕ) (is : at ≡ place (isNamed a i) (bookOf t)) (in-book : at < length (bookOf t)) (n : ℕ) (out′ : List ℕ)
-        (put : n ≡ putNumber out (getD (t .entries) at noEntry .secret)) (puts : out′ ≡ putList out (getD (t .entries) at noEntry .secret)) (ref : f ≡ refusalOf n) where
-      pub looks-10 : (n ≡ 0 → ⊥) → LooksUp t a i out (record { refusal = f; found = 0; ems = 0 }) out′
-      looks-10 z =
-          looks-up t a i out (record { refusal = f; found = 0; ems = 0 }) out′
-          (looked-10 a i out (bookOf t) f (getD (t .entries) at noEntry) n out′ good (found-entry t a i at is in-book) put puts ref z)
+    module _ (r : Row) (is : sessionIn a r ≡ sought a i (queueOf t a)) where
+      pub looks-none : r .size ≡ 0 → f ≡ refusalOf 0 → LooksUp t a i out (record { refusal = f; found = 0; ems = 0 }) out
+      looks-none z e = looks-up (record { refusal = f; found = 0; ems = 0 }) out (looked-none a i out f (queueOf t a) good (sym is ∙ blank-none a r z) e)
 
-      pub looks-0 : (m : ℕ) → m ≡ bit (yes (getD (t .entries) at noEntry .ems)) → n ≡ 0 → LooksUp t a i out (record { refusal = f; found = 1; ems = m }) out′
-      looks-0 m e z =
-          looks-up t a i out (record { refusal = f; found = 1; ems = m }) out′
-          (rw e (looked-0 a i out (bookOf t) f (getD (t .entries) at noEntry) n out′ good (found-entry t a i at is in-book) put puts ref z))
+      module _ (one : r .size ≡ 0 → ⊥) (n : ℕ) (out′ : List ℕ) (put : n ≡ putNumber out (r .secret)) (puts : out′ ≡ putList out (r .secret)) (ref : f ≡ refusalOf n) where
+        pub looks-10 : (n ≡ 0 → ⊥) → LooksUp t a i out (record { refusal = f; found = 0; ems = 0 }) out′
+        looks-10 z = looks-up (record { refusal = f; found = 0; ems = 0 }) out′ (looked-10 a i out (queueOf t a) f r n out′ good (sym is ∙ taken-some a r one) put puts ref z)
+
+        pub looks-0 : (m : ℕ) → m ≡ bit (yes (r .ems)) → n ≡ 0 → LooksUp t a i out (record { refusal = f; found = 1; ems = m }) out′
+        looks-0 m e z =
+            looks-up (record { refusal = f; found = 1; ems = m }) out′
+            (rw e (looked-0 a i out (queueOf t a) f r n out′ good (sym is ∙ taken-some a r one) put puts ref z))
 
 -- ---- withdrawal
 
-module _ (t : Table) (a : ℕ) (i : List ℕ) (f : Refusal) where
-  pub withdraws-11 : badName a i ≡ true → f ≡ refusalOf 11 → Withdraws t a i (record { refusal = f; withdrawn = 0; table = t })
+-- not refused: a name that a session can have
+pub withdraw-good : (a : ℕ) (i : List ℕ) → withdrawNumber a i ≡ 0 → badName a i ≡ false
+unfolding withdrawNumber firstOf
+withdraw-good a i z =
+    ⊎-elim
+    (λ (y : badName a i ≡ true). let e : _≡_ {A = ℕ} 11 0 = rw y at z in absurd (omega arith))
+    (λ (n : badName a i ≡ false). n)
+    (which (badName a i))
+
+module _ (t : Table) (a : ℕ) (i : List ℕ) (m : ℕ) (f : Refusal) (num : m ≡ withdrawNumber a i) (ref : f ≡ refusalOf m) where
+  pub withdraws-refused : (m ≡ 0 → ⊥) → Withdraws t a i (record { refusal = f; withdrawn = 0; table = t })
   unfolding withdrawnOf after
-  withdraws-11 h e =
-      let n = withdraw-11 a i h in
+  withdraws-refused z =
+      let n = ne-eqb m 0 z in
       record {
-        refusal = e ∙ ap refusalOf n;
-        book = bookOf t;
-        of-book = rw (← n);
+        refusal = ref ∙ ap refusalOf num;
+        book = empty;
+        of-book = rw (← num, n);
         refused = λ w. refl;
-        answers = λ b k. rw (← n);
-        keeps = λ b k. rw (← n) k;
+        answers = λ b k. rw (← num, n);
+        keeps = λ b k. rw (← num, n) k;
       }
 
-  module _ (good : badName a i ≡ false) (ref : f ≡ refusalOf 0) where
-    pub withdraws-none : length (bookOf t) ≤ place (isNamed a i) (bookOf t) → Withdraws t a i (record { refusal = f; withdrawn = 0; table = t })
-    unfolding withdrawnOf after
-    withdraws-none h =
-        let n = withdraw-0 a i good in
-        let z = place-none (isNamed a i) (bookOf t) h in
-        let same : (b : Book) → Keeps t b → bookOf t ≡ after b (withdraw a i) =
-        λ b k. rw (← n, ← k .book) (sym (cut-past (place (isNamed a i) (bookOf t)) (bookOf t) h) ∙ place-strike (isNamed a i) (bookOf t)) in
-        record {
-          refusal = ref ∙ ap refusalOf n;
-          book = bookOf t;
-          of-book = rw (← n, z);
-          refused = λ w. refl;
-          answers = λ b k. rw (← n, ← k .book, z);
-          keeps = λ b k. record { book = same b k; sound = sound-after b (withdraw a i) (k .sound) };
-        }
+  -- the session at the place found goes, if there is one
+  module _ (good : m ≡ 0) (own at w : ℕ) (d less : Queue) (is : suc own ≡ a) (own-six : own < 6)
+      (found : at ≡ place (isNamed a i) (sessionsOf a (getD (t .queues) own d)))
+      (flag : w ≡ bit (ltb at (length (sessionsOf a (getD (t .queues) own d)))))
+      (gone : (b : Book) → getD (t .queues) own d ≡ laid b → length b ≤ 8 → less ≡ laid (cut at b)) where
+    flag-is : w ≡ withdrawnOf a i (sessionsOf a (getD (t .queues) own d))
+    unfolding withdrawnOf
+    flag-is =
+        let b = sessionsOf a (getD (t .queues) own d) in
+        let n = sym good ∙ num in
+        flag
+        ∙ (⊎-elim
+        (λ (y : ltb at (length b) ≡ true).
+        let h : place (isNamed a i) b < length b = rw found at (ltb-true at (length b) y) in
+        rw (y, ← n, place-oldest (isNamed a i) (sessionOf a (rowOf (record { axle = a; identifier = []; ems = false; secret = [] }))) b h))
+        (λ (y : ltb at (length b) ≡ false).
+        let h : length b ≤ place (isNamed a i) b = rw found at (ltb-false at (length b) y) in
+        rw (y, ← n, place-none (isNamed a i) b h))
+        (which (ltb at (length b))))
 
-    pub withdraws-one : (at : ℕ) (t′ : Table) → at ≡ place (isNamed a i) (bookOf t) → at < length (bookOf t) → bookOf t′ ≡ cut at (bookOf t)
-        → Withdraws t a i (record { refusal = f; withdrawn = 1; table = t′ })
-    unfolding withdrawnOf after
-    withdraws-one at t′ is h gone =
-        let n = withdraw-0 a i good in
-        let z = found-entry t a i at is h in
+    withdraws-queues : (b : Book) → Keeps t b → set (t .queues) own less ≡ six (λ c. laid (partOf c (strike (isNamed a i) b)))
+    withdraws-queues b k =
+        let e = k .table in
+        let p = isNamed a i in
+        let here : sessionsOf a (getD (t .queues) own d) ≡ partOf a b = rw (← is) (sessions-at t b e own d own-six) in
+        let eight : length (partOf (suc own) b) ≤ 8 = rw (part-length (suc own) b) (k .sound .eight (suc own)) in
+        let struck-out : cut at (partOf (suc own) b) ≡ strike p (partOf (suc own) b) = rw (is, found, here) (place-strike p (partOf a b)) in
+        let own-name : (s : Session) → p s ≡ true → isOf (suc own) s ≡ true = rw is (named-of a i) in
+        queues-less t b (strike p b) own at less e own-six (part-goes b (suc own) at p own-name struck-out) (gone (partOf (suc own) b) (laid-at t b e own d own-six) eight)
+
+    pub withdraws-done : Withdraws t a i (record { refusal = f; withdrawn = w; table = record { queues = set (t .queues) own less } })
+    unfolding withdrawnOf after tableOf
+    withdraws-done =
+        let n = sym good ∙ num in
         record {
-          refusal = ref ∙ ap refusalOf n;
-          book = bookOf t;
-          of-book = rw (← n, z);
-          refused = λ w. absurd (w (rw (ref, row-number 0)));
-          answers = λ b k. rw (← n, ← k .book, z);
-          keeps = λ b k. record { book = gone ∙ (rw (is, ← n, ← k .book) (place-strike (isNamed a i) (bookOf t))); sound = sound-after b (withdraw a i) (k .sound) };
+          refusal = ref ∙ ap refusalOf num;
+          book = sessionsOf a (getD (t .queues) own d);
+          of-book = flag-is;
+          refused = λ v. absurd (v (rw (ref, row-number m) good));
+          answers = λ b k.
+              let here : sessionsOf a (getD (t .queues) own d) ≡ partOf a b = rw (← is) (sessions-at t b (k .table) own d own-six) in
+              let same : sought a i (sessionsOf a (getD (t .queues) own d)) ≡ sought a i b = ap (sought a i) here ∙ part-sought a i b in
+              flag-is ∙ ap (λ (o : Option Session). bit (granted (withdrawNumber a i) (there o) false)) same;
+          keeps = λ b k. record { table = rw (← n, withdraws-queues b k); sound = sound-after b (withdraw a i) (k .sound) };
         }
 
 -- ---- number held
 
-counts-held : (t : Table) (a : ℕ) (r : Held) → r ≡ heldOf a (bookOf t) → CountsHeld t a r
-counts-held t a r p = record { book = bookOf t; of-book = p; answers = λ b k. rw (k .book) at p }
+-- so many of an axle
+holds-replicate : (a k : ℕ) (s : Session) → isOf a s ≡ true → holds a (replicate k s) ≡ k
+unfolding many
+holds-replicate a zero s e = refl
+holds-replicate a (suc k) s e = rw (e, holds-replicate a k s e) (omega arith)
 
 module _ (t : Table) (a : ℕ) (f : Refusal) where
   pub counts-11 : badAxle a ≡ true → f ≡ refusalOf 11 → CountsHeld t a (record { refusal = f; count = 0 })
   unfolding heldOf
-  counts-11 h e = counts-held t a (record { refusal = f; count = 0 }) (rw (← held-11 a h, e))
+  counts-11 h e = record { book = empty; of-book = rw (← held-11 a h, e); answers = λ b k. rw (← held-11 a h, e) }
 
-  pub counts-0 : (k : ℕ) → badAxle a ≡ false → f ≡ refusalOf 0 → k ≡ holds a (bookOf t) → CountsHeld t a (record { refusal = f; count = k })
+  pub counts-0 : (k : ℕ) → 1 ≤ a → a ≤ 6 → badAxle a ≡ false → f ≡ refusalOf 0 → (heldIn t a ≤ 8 → k ≡ heldIn t a) → CountsHeld t a (record { refusal = f; count = k })
   unfolding heldOf
-  counts-0 k h e p = counts-held t a (record { refusal = f; count = k }) (rw (← held-0 a h, e, p))
+  counts-0 k from to h e p =
+      let s : Session = record { axle = a; identifier = []; ems = false; secret = [] } in
+      record {
+        book = replicate k s;
+        of-book = rw (← held-0 a h, e, holds-replicate a k s (of-axle a s refl));
+        answers = λ b w.
+            let q = queue-held t b (w .table) a from to in
+            let k′ : k ≡ holds a b = p (rw q (w .sound .eight a)) ∙ q in
+            rw (← held-0 a h, e, k′);
+      }
 
 -- ---- what is known
 
-knows : (t : Table) (a : ℕ) (i : List ℕ) (r : Known) → r ≡ knownOf (sought a i (bookOf t)) → Knows t a i r
-knows t a i r p = record { book = bookOf t; of-book = p; answers = λ b k. rw (k .book) at p }
+-- a name that no store takes is in no book
+unnamed : (a : ℕ) (i : List ℕ) (b : Book) → Each Formed b → badName a i ≡ true → sought a i b ≡ none
+unfolding oldest
+unnamed a i [] f h = refl
+unnamed a i (s ∷ b) f h =
+    ⊎-elim
+    (λ (y : isNamed a i s ≡ true).
+    let m = named-name a i s y in
+    let ax = name-axle a i (s .axle) (s .identifier) m in
+    let id = name-identifier a i (s .axle) (s .identifier) m in
+    let g : badName a i ≡ false = rw (← ax, ← id) (sym (name-good (s .axle) (s .identifier) (sym (axle-good (s .axle) (f .0 .axle-from) (f .0 .axle-to))) (f .0 .identifier-from) (f .0 .identifier-to))) in
+    not-both h g)
+    (λ (n : isNamed a i s ≡ false). rw n (unnamed a i b (f .1) h))
+    (which (isNamed a i s))
 
 module _ (t : Table) (a : ℕ) (i : List ℕ) where
-  pub knows-nothing : length (bookOf t) ≤ place (isNamed a i) (bookOf t) → Knows t a i Nothing
-  knows-nothing h = knows t a i Nothing (rw (place-none (isNamed a i) (bookOf t) h))
+  pub knows-11 : badName a i ≡ true → Knows t a i Nothing
+  unfolding oldest
+  knows-11 h = record { book = empty; of-book = refl; answers = λ b k. rw (unnamed a i b (k .sound .formed) h) }
 
-  module _ (at : ℕ) (is : at ≡ place (isNamed a i) (bookOf t)) (h : at < length (bookOf t)) where
-    pub knows-without : getD (t .entries) at noEntry .ems ≡ 0 → Knows t a i WithoutEms
-    unfolding sessionOf
-    knows-without e = knows t a i WithoutEms (rw (found-entry t a i at is h, e))
+  module _ (good : badName a i ≡ false) (r : Row) (is : sessionIn a r ≡ sought a i (queueOf t a)) where
+    pub knows-none : r .size ≡ 0 → Knows t a i Nothing
+    knows-none z =
+        let e : sought a i (queueOf t a) ≡ none = sym is ∙ blank-none a r z in
+        record { book = queueOf t a; of-book = rw e; answers = λ b k. rw (seen t a i b good k, e) }
 
-    pub knows-with : (getD (t .entries) at noEntry .ems ≡ 0 → ⊥) → Knows t a i WithEms
-    unfolding sessionOf
-    knows-with e = knows t a i WithEms (rw (found-entry t a i at is h, ne-eqb (getD (t .entries) at noEntry .ems) 0 e))
+    module _ (one : r .size ≡ 0 → ⊥) where
+      pub knows-without : r .ems ≡ 0 → Knows t a i WithoutEms
+      unfolding sessionOf
+      knows-without z =
+          let e : sought a i (queueOf t a) ≡ some (sessionOf a r) = sym is ∙ taken-some a r one in
+          record { book = queueOf t a; of-book = rw (e, z); answers = λ b k. rw (seen t a i b good k, e, z) }
+
+      pub knows-with : (r .ems ≡ 0 → ⊥) → Knows t a i WithEms
+      unfolding sessionOf
+      knows-with z =
+          let e : sought a i (queueOf t a) ≡ some (sessionOf a r) = sym is ∙ taken-some a r one in
+          record { book = queueOf t a; of-book = rw (e, ne-eqb (r .ems) 0 z); answers = λ b k. rw (seen t a i b good k, e, ne-eqb (r .ems) 0 z) }

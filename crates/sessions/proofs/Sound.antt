@@ -86,7 +86,7 @@ struck-gone a i b b′ g (own z h) = omega (arith, many-strike (isOf a) (isNamed
 struck-gone a i b b′ g (room z h l) = z
 struck-gone a i b b′ g (other z h l) = omega (arith, many-strike (isOf (fullest b)) (isNamed a i) b)
 
-struck-seven : (a : ℕ) (i : List ℕ) (b b′ : Book) → Sound b → Struck a i b b′ → holds a b′ ≤ 7
+pub struck-seven : (a : ℕ) (i : List ℕ) (b b′ : Book) → Sound b → Struck a i b b′ → holds a b′ ≤ 7
 struck-seven a i b b′ g (renewed h) = omega (arith, within-many (isNamed a i) (isOf a) (named-of a i) b h, g .eight a)
 struck-seven a i b b′ g (own z h) =
     let one : 1 ≤ holds a b = omega arith in

@@ -2,12 +2,14 @@
 -- the sessions are laid out stands here and nowhere else.
 -- Assumes nothing.
 use mathlib.Core.Path.{_≡_}
-use mathlib.Core.List.{List, [], _∷_, map}
-use Prim.Native.Nat.{ℕ, _≤_}
-use lib.ListN.{length, take}
-use Rattle.seqs.specs.Flag.{yes}
-use Rattle.sessions.specs.Book.{Session, Book, many, isNamed, holds}
-use Rattle.sessions.specs.declared.entry.Entry.{Entry}
+use mathlib.Core.List.{List, [], _∷_, _++_, map}
+use Prim.Native.Nat.{ℕ, _-_, _≤_}
+use lib.ListN.{length, take, getD, replicate}
+use Rattle.seqs.specs.Flag.{yes, bit}
+use Rattle.seqs.specs.Pick.{pick}
+use Rattle.sessions.specs.Book.{Session, Book, many, isOf, isNamed, holds}
+use Rattle.sessions.specs.declared.row.Row.{Row}
+use Rattle.sessions.specs.declared.queue.Queue.{Queue}
 use Rattle.sessions.specs.declared.table.Table.{Table}
 
 -- a session that a store answered 0 can have given
@@ -33,15 +35,63 @@ pub record Sound (b : Book) : Type 0 where
   -- 'and all together never more than 32'
   pub thirty-two : length b ≤ 32
 
--- the session in an entry of the table. `take` of more than there is is all, so that every struct value has a meaning.
-unfoldable pub sessionOf : Entry → Session
-sessionOf r = record { axle = r .axle; identifier = take (r .size) (r .identifier); ems = yes (r .ems); secret = r .secret }
+-- ---- the table of a book
 
--- the entries that count, in their order
-unfoldable pub bookOf : Table → Book
-bookOf t = map sessionOf (take (t .len) (t .entries))
+-- 'its axle's part of the plain book'
+unfoldable pub partOf : ℕ → Book → Book
+partOf a [] = []
+partOf a (s ∷ b) = pick (isOf a s) (s ∷ partOf a b) (partOf a b)
 
--- the table t keeps the book b
+-- A session in its place, with zeros behind the identifier. Whose it is says the queue.
+unfoldable pub rowOf : Session → Row
+rowOf s =
+    record {
+      ems = bit (s .ems);
+      size = length (s .identifier);
+      identifier = s .identifier ++ replicate (32 - length (s .identifier)) 0;
+      secret = s .secret;
+    }
+
+-- a place that holds no session
+unfoldable pub noSession : Row
+noSession = record { ems = 0; size = 0; identifier = replicate 32 0; secret = replicate 48 0 }
+
+-- 'in order of storing, each with room for 8 and its number held'; what holds no session is blank
+unfoldable pub laid : Book → Queue
+laid b = record { rows = map rowOf b ++ replicate (8 - length b) noSession; held = length b }
+
+-- one for each axle, that of axle 1 first
+abbrev pub six : {A : Type 0} → (ℕ → A) → List A
+six f = f 1 ∷ f 2 ∷ f 3 ∷ f 4 ∷ f 5 ∷ f 6 ∷ []
+
+-- 'six queues'
+unfoldable pub tableOf : Book → Table
+tableOf b = record { queues = six (λ a. laid (partOf a b)) }
+
+-- The table t keeps the book b: it is the one value for the six parts of b, to the last byte. Books with the same six parts have
+-- the same table; how the sessions of two axles stand to each other in the row is not kept.
 pub record Keeps (t : Table) (b : Book) : Type 0 where
-  pub book : bookOf t ≡ b
+  pub table : t ≡ tableOf b
   pub sound : Sound b
+
+-- ---- a table, read
+
+-- the session in a place of an axle's queue. `take` of more than there is is all, so that every struct value has a meaning.
+unfoldable pub sessionOf : ℕ → Row → Session
+sessionOf a r = record { axle = a; identifier = take (r .size) (r .identifier); ems = yes (r .ems); secret = r .secret }
+
+-- the places that count, in their order
+unfoldable pub sessionsOf : ℕ → Queue → Book
+sessionsOf a q = map (sessionOf a) (take (q .held) (q .rows))
+
+-- the queue of an axle from 1 to 6
+unfoldable pub queueAt : Table → ℕ → Queue
+queueAt t a = getD (t .queues) (a - 1) (laid [])
+
+-- its sessions
+unfoldable pub queueOf : Table → ℕ → Book
+queueOf t a = sessionsOf a (queueAt t a)
+
+-- its number held, as it is stored
+unfoldable pub heldIn : Table → ℕ → ℕ
+heldIn t a = queueAt t a .held

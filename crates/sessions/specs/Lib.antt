@@ -4,3 +4,5 @@ pub mod Keeps
 pub mod Promises
 pub mod Demand3
 pub mod Places
+pub mod OneRow
+pub mod Order3

@@ -1,12 +1,12 @@
 // The calls on the table. A refusal leaves the table and what is lent as they were.
-use crate::entry::Entry;
+use crate::row::Row;
 use crate::table::Table;
 use refusal::Refusal;
 use refusal::refuse;
 ghost use mathlib.Core.Path.{_≡_};
 ghost use mathlib.Core.Bool.{Bool};
 ghost use Rattle.seqs.specs.Flag.{yes, bit};
-ghost use Rattle.sessions.specs.Book.{badAxle, badName, storeNumber};
+ghost use Rattle.sessions.specs.Book.{badAxle, badName, storeNumber, withdrawNumber};
 ghost use Rattle.sessions.specs.Promises.{Starts, Stores, LooksUp, Withdraws, CountsHeld, Clears, Knows};
 
 #[repr(C)]
@@ -88,6 +88,12 @@ fn store_number(axle: u8, identifier: &[u8], secret: &[u8]) -> u8
     0
 }
 
+fn withdraw_number(axle: u8, identifier: &[u8]) -> u8
+    ensures { λ r. ⌜ r ≡ withdrawNumber axle (now (identifier .entry)) ⌝ }
+{
+    if bad_name(axle, identifier) { 11 } else { 0 }
+}
+
 // A flag as we write it.
 fn flag(x: u8) -> u8
     ensures { λ r. ⌜ r ≡ bit (yes x) ⌝ }
@@ -103,20 +109,26 @@ impl Table {
         Table::blank()
     }
 
+    // One session goes, if any, and the new one is written last.
     pub fn store(self, axle: u8, identifier: &[u8], ems: bool, secret: &[u8]) -> Stored
         ensures { λ r. ⌜ Stores self (record { axle = axle; identifier = now (identifier .entry); ems = ems; secret = now (secret .entry) }) r ⌝ }
     {
         let number = store_number(axle, identifier, secret);
         let refusal = refuse(number);
-        if number != 0 {
-            return Stored {
-                refusal,
-                table: self,
-            };
+        let mut table = self;
+        if number == 0 {
+            let own = axle as usize - 1;
+            let full = 32 <= self.total();
+            let numbers = self.numbers();
+            let goes = table.queues[own].victim(own, identifier, full, numbers);
+            let from = goes.queue;
+            // where none goes, the place is the first free one: the queue is not copied for nothing
+            if goes.place < numbers[from] as usize {
+                table.queues[from] = table.queues[from].without(goes.place);
+            }
+            let row = Row::of(identifier, ems, secret);
+            table.queues[own] = table.queues[own].pushed(row);
         }
-        let entry = Entry::of(axle, identifier, ems, secret);
-        let at = self.victim(axle, identifier);
-        let table = self.renewed(at, entry);
         Stored { refusal, table }
     }
 
@@ -131,17 +143,15 @@ impl Table {
                 ems: 0,
             };
         }
-        let at = self.find(axle, identifier);
-        let size = self.size();
-        if size <= at {
+        let row = self.named(axle, identifier);
+        if row.size == 0 {
             return Looked {
                 refusal: refuse(0),
                 found: 0,
                 ems: 0,
             };
         }
-        let entry = self.entries[at];
-        let number = octets::put(out, &entry.secret);
+        let number = octets::put(out, &row.secret);
         let refusal = refuse(number);
         if number != 0 {
             return Looked {
@@ -150,7 +160,7 @@ impl Table {
                 ems: 0,
             };
         }
-        let ems = flag(entry.ems);
+        let ems = flag(row.ems);
         Looked {
             refusal,
             found: 1,
@@ -161,24 +171,21 @@ impl Table {
     pub fn withdraw(self, axle: u8, identifier: &[u8]) -> Withdrawn
         ensures { λ r. ⌜ Withdraws self axle (now (identifier .entry)) r ⌝ }
     {
-        let refusal = refuse(0);
-        let mut r = Withdrawn {
+        let number = withdraw_number(axle, identifier);
+        let refusal = refuse(number);
+        let mut withdrawn = 0;
+        let mut table = self;
+        if number == 0 {
+            let own = axle as usize - 1;
+            let i = table.queues[own].find(identifier);
+            withdrawn = table.queues[own].taken(i);
+            table.queues[own] = table.queues[own].without(i);
+        }
+        Withdrawn {
             refusal,
-            withdrawn: 0,
-            table: self,
-        };
-        if bad_name(axle, identifier) {
-            r.refusal = refuse(11);
-            return r;
+            withdrawn,
+            table,
         }
-        let at = self.find(axle, identifier);
-        let size = self.size();
-        if size <= at {
-            return r;
-        }
-        r.withdrawn = 1;
-        r.table = self.without(at);
-        r
     }
 
     pub fn held(self, axle: u8) -> Held
@@ -190,7 +197,8 @@ impl Table {
                 count: 0,
             };
         }
-        let count = self.count(axle) as u8;
+        let number = self.number(axle);
+        let count = if number < 8 { number } else { 8 };
         Held {
             refusal: refuse(0),
             count,
@@ -210,14 +218,14 @@ impl Table {
     pub fn known(self, axle: u8, identifier: &[u8]) -> Known
         ensures { λ r. ⌜ Knows self axle (now (identifier .entry)) r ⌝ }
     {
-        let at = self.find(axle, identifier);
-        let size = self.size();
-        if size <= at {
+        if bad_name(axle, identifier) {
             return Known::Nothing;
         }
-        let entry = self.entries[at];
-        let ems = entry.ems;
-        if ems == 0 {
+        let row = self.named(axle, identifier);
+        if row.size == 0 {
+            return Known::Nothing;
+        }
+        if row.ems == 0 {
             return Known::WithoutEms;
         }
         Known::WithEms

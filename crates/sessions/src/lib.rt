@@ -1,7 +1,9 @@
 // The table of 32 sessions. What its calls promise: specs/Promises.antt. The tender's third condition, over every list of
 // calls: specs/Demand3.antt, proved in proofs/Demand3.antt.
 mod calls;
-mod entry;
+mod queue;
+mod row;
+mod six;
 mod table;
 
 pub use calls::Cleared;
@@ -10,5 +12,6 @@ pub use calls::Known;
 pub use calls::Looked;
 pub use calls::Stored;
 pub use calls::Withdrawn;
-pub use entry::Entry;
+pub use queue::Queue;
+pub use row::Row;
 pub use table::Table;

@@ -1,7 +1,4 @@
--- No entry counts.
--- Assumes nothing.
-use mathlib.Core.Path.{refl}
-use Rattle.sessions.proofs.Places.{book-none}
+use Rattle.sessions.specs.Keeps.{partOf, tableOf}
 use borrow.Author.Needs.{needs}
 use Rattle.sessions.proofs.table.Table.blank.Statement.{statement}
 use Rattle.sessions.proofs.table.Table.blank.Tie as tie
@@ -10,7 +7,8 @@ blank-requires : tie.Need-blank-requires
 blank-requires c κs = search needs
 
 returns : tie.Need-returns
-returns c = book-none _ refl
+unfolding partOf tableOf
+returns c = rw (c .blank .ensures)
 
 pub blank-spec : {M : Type 1} → statement M
 blank-spec = tie.close (tie.spec blank-requires returns)

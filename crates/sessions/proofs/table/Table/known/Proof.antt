@@ -1,39 +1,42 @@
--- The flag of the entry at the place found.
+-- The flag in the place found.
 -- Assumes nothing.
-use native.Mathlib.Omega.{arith}
-use Rattle.sessions.proofs.Kept.{knows-nothing, knows-without, knows-with}
+use mathlib.Core.Path.{sym, _∙_}
+use Rattle.sessions.proofs.Kept.{knows-11, knows-none, knows-without, knows-with}
+use Rattle.sessions.proofs.Sound.{good-name}
 use borrow.Author.Needs.{needs}
 use Rattle.sessions.proofs.table.Table.known.Statement.{statement}
 use Rattle.sessions.proofs.table.Table.known.Tie as tie
 
-find-requires : tie.Need-find-requires
-find-requires c κs = search needs
-
-size-requires : tie.Need-size-requires
-size-requires c κs = search needs
+bad-name-requires : tie.Need-bad-name-requires
+bad-name-requires c κs = search needs
 
 returns : tie.Need-returns
-returns c =
-    let a = c .before .before .before .before .args in
-    knows-nothing (a .t1) (a .axle) (a .identifier .now) (omega arith)
+returns c = let a = c .before .before .before .args in knows-11 (a .self) (a .axle) (a .identifier .now) (sym (c .before .bad-name .ensures) ∙ c .if1 .taken)
 
-mul-entry : tie.Need-mul-entry
-mul-entry c = search needs
-
-element-copy-out-entry : tie.Need-element-copy-out-entry
-element-copy-out-entry c = search needs
+named-requires : tie.Need-named-requires
+named-requires c κs =
+    let a = c .before .before .before .args in
+    let good = sym (c .before .bad-name .ensures) ∙ c .if1 .left in
+    let g = good-name (a .axle) (a .identifier .now) good in (g .0, g .1, g .2)
 
 returns-2 : tie.Need-returns-2
 returns-2 c =
     let a = c .before .before .before .before .before .before .args in
-    knows-without (a .t1) (a .axle) (a .identifier .now) (c .before .before .before .before .find .result) (c .before .before .before .before .find .ensures) (omega arith) (c .if2 .taken)
+    let good = sym (c .before .before .before .before .bad-name .ensures) ∙ c .before .before .before .if1 .left in
+    knows-none (a .self) (a .axle) (a .identifier .now) good (c .before .before .named .result) (c .before .before .named .ensures) (c .if2 .taken)
 
 returns-3 : tie.Need-returns-3
 returns-3 c =
-    let a = c .before .before .before .before .before .before .args in
-    knows-with (a .t1) (a .axle) (a .identifier .now) (c .before .before .before .before .find .result) (c .before .before .before .before .find .ensures) (omega arith) (c .if2 .left)
+    let a = c .before .before .before .before .before .before .before .before .args in
+    let good = sym (c .before .before .before .before .before .before .bad-name .ensures) ∙ c .before .before .before .before .before .if1 .left in
+    knows-without (a .self) (a .axle) (a .identifier .now) good (c .before .before .before .before .named .result) (c .before .before .before .before .named .ensures) (c .before .before .if2 .left) (c .if3 .taken)
+
+returns-4 : tie.Need-returns-4
+returns-4 c =
+    let a = c .before .before .before .before .before .before .before .before .args in
+    let good = sym (c .before .before .before .before .before .before .bad-name .ensures) ∙ c .before .before .before .before .before .if1 .left in
+    knows-with (a .self) (a .axle) (a .identifier .now) good (c .before .before .before .before .named .result) (c .before .before .before .before .named .ensures) (c .before .before .if2 .left) (c .if3 .left)
 
 pub known-spec : {M : Type 1} → statement M
 known-spec =
-    tie.close
-    (tie.spec find-requires size-requires returns mul-entry element-copy-out-entry returns-2 returns-3)
+    tie.close (tie.spec bad-name-requires returns named-requires returns-2 returns-3 returns-4)

@@ -1,8 +1,8 @@
--- The session at the place found; its secret goes to the front of the output, or nothing does.
+-- The session in the place found; its secret goes to the front of the output, or nothing does.
 -- Assumes nothing.
 use mathlib.Core.Path.{sym, _∙_}
-use native.Mathlib.Omega.{arith}
 use Rattle.sessions.proofs.Kept.{looks-11, looks-none, looks-10, looks-0}
+use Rattle.sessions.proofs.Sound.{good-name}
 use borrow.Author.Needs.{needs}
 use Rattle.sessions.proofs.table.Table.look_up.Statement.{statement}
 use Rattle.sessions.proofs.table.Table.look_up.Tie as tie
@@ -16,27 +16,22 @@ refuse-requires c κs = search needs
 returns : tie.Need-returns
 returns c =
     let a = c .before .before .before .before .before .args in
-    looks-11 (a .t1) (a .axle) (a .identifier .now) (a .out .now) (c .refuse .result) (sym (c .before .before .bad-name .ensures) ∙ c .before .if1 .taken) (c .refuse .ensures)
+    looks-11 (a .self) (a .axle) (a .identifier .now) (a .out .now) (c .refuse .result) (sym (c .before .before .bad-name .ensures) ∙ c .before .if1 .taken) (c .refuse .ensures)
 
-find-requires : tie.Need-find-requires
-find-requires c κs = search needs
-
-size-requires : tie.Need-size-requires
-size-requires c κs = search needs
+named-requires : tie.Need-named-requires
+named-requires c κs =
+    let a = c .before .before .before .before .args in
+    let good = sym (c .before .bad-name .ensures) ∙ c .if1 .left in
+    let g = good-name (a .axle) (a .identifier .now) good in (g .0, g .1, g .2)
 
 refuse-requires-2 : tie.Need-refuse-requires-2
 refuse-requires-2 c κs = search needs
 
 returns-2 : tie.Need-returns-2
 returns-2 c =
-    let a = c .before .before .before .before .before .before .before .before .args in
-    looks-none (a .t1) (a .axle) (a .identifier .now) (a .out .now) (c .refuse2 .result) (sym (c .before .before .before .before .before .bad-name .ensures) ∙ c .before .before .before .before .if1 .left) (omega arith) (c .refuse2 .ensures)
-
-mul-entry : tie.Need-mul-entry
-mul-entry c = search needs
-
-element-copy-out-entry : tie.Need-element-copy-out-entry
-element-copy-out-entry c = search needs
+    let a = c .before .before .before .before .before .before .before .args in
+    let good = sym (c .before .before .before .before .bad-name .ensures) ∙ c .before .before .before .if1 .left in
+    looks-none (a .self) (a .axle) (a .identifier .now) (a .out .now) (c .refuse2 .result) good (c .before .before .named .result) (c .before .before .named .ensures) (c .before .if2 .taken) (c .refuse2 .ensures)
 
 put-requires : tie.Need-put-requires
 put-requires c κs = search needs
@@ -49,9 +44,9 @@ same-length c = search needs
 
 returns-3 : tie.Need-returns-3
 returns-3 c =
-    let a = c .before .before .before .before .before .before .before .before .before .before .before .before .before .before .before .before .before .args in
-    looks-10 (a .t1) (a .axle) (a .identifier .now) (a .out .now) (c .before .refuse3 .result) (sym (c .before .before .before .before .before .before .before .before .before .before .before .before .before .before .bad-name .ensures) ∙ c .before .before .before .before .before .before .before .before .before .before .before .before .before .if1 .left)
-    (c .before .before .before .before .before .before .before .before .before .before .before .before .find .result) (c .before .before .before .before .before .before .before .before .before .before .before .before .find .ensures) (omega arith) (c .before .before .before .before .put .result) _ (c .before .before .before .before .put .ensures .0) (c .before .before .before .before .put .ensures .1) (c .before .refuse3 .ensures) (c .if3 .taken)
+    let a = c .before .before .before .before .before .before .before .before .before .before .before .before .before .before .before .args in
+    let good = sym (c .before .before .before .before .before .before .before .before .before .before .before .before .bad-name .ensures) ∙ c .before .before .before .before .before .before .before .before .before .before .before .if1 .left in
+    looks-10 (a .self) (a .axle) (a .identifier .now) (a .out .now) (c .before .refuse3 .result) good (c .before .before .before .before .before .before .before .before .before .before .named .result) (c .before .before .before .before .before .before .before .before .before .before .named .ensures) (c .before .before .before .before .before .before .before .before .before .if2 .left) (c .before .before .before .before .put .result) _ (c .before .before .before .before .put .ensures .0) (c .before .before .before .before .put .ensures .1) (c .before .refuse3 .ensures) (c .if3 .taken)
 
 flag-requires : tie.Need-flag-requires
 flag-requires c κs = search needs
@@ -61,10 +56,9 @@ same-length-2 c = search needs
 
 returns-4 : tie.Need-returns-4
 returns-4 c =
-    let a = c .before .before .before .before .before .before .before .before .before .before .before .before .before .before .before .before .before .before .args in
-    looks-0 (a .t1) (a .axle) (a .identifier .now) (a .out .now) (c .before .before .refuse3 .result) (sym (c .before .before .before .before .before .before .before .before .before .before .before .before .before .before .before .bad-name .ensures) ∙ c .before .before .before .before .before .before .before .before .before .before .before .before .before .before .if1 .left)
-    (c .before .before .before .before .before .before .before .before .before .before .before .before .before .find .result) (c .before .before .before .before .before .before .before .before .before .before .before .before .before .find .ensures) (omega arith) (c .before .before .before .before .before .put .result) _ (c .before .before .before .before .before .put .ensures .0) (c .before .before .before .before .before .put .ensures .1) (c .before .before .refuse3 .ensures)
-    (c .flag .result) (c .flag .ensures) (c .before .if3 .left)
+    let a = c .before .before .before .before .before .before .before .before .before .before .before .before .before .before .before .before .args in
+    let good = sym (c .before .before .before .before .before .before .before .before .before .before .before .before .before .bad-name .ensures) ∙ c .before .before .before .before .before .before .before .before .before .before .before .before .if1 .left in
+    looks-0 (a .self) (a .axle) (a .identifier .now) (a .out .now) (c .before .before .refuse3 .result) good (c .before .before .before .before .before .before .before .before .before .before .before .named .result) (c .before .before .before .before .before .before .before .before .before .before .before .named .ensures) (c .before .before .before .before .before .before .before .before .before .before .if2 .left) (c .before .before .before .before .before .put .result) _ (c .before .before .before .before .before .put .ensures .0) (c .before .before .before .before .before .put .ensures .1) (c .before .before .refuse3 .ensures) (c .flag .result) (c .flag .ensures) (c .before .if3 .left)
 
 pub look-up-spec : {M : Type 1} → statement M
 look-up-spec =
@@ -73,12 +67,9 @@ look-up-spec =
     bad-name-requires
     refuse-requires
     returns
-    find-requires
-    size-requires
+    named-requires
     refuse-requires-2
     returns-2
-    mul-entry
-    element-copy-out-entry
     put-requires
     refuse-requires-3
     same-length

@@ -1,59 +1,108 @@
--- The entry at the place found goes out.
+-- The session at the place found goes, if there is one.
 -- Assumes nothing.
 use mathlib.Core.Path.{sym, _∙_}
+use Prim.Native.Nat.{_-_}
+use Rattle.sessions.proofs.Kept.{withdraws-refused, withdraws-done, withdraw-good}
+use Rattle.sessions.proofs.Queues.{noQueue}
+use Rattle.sessions.proofs.Sound.{good-name}
 use native.Mathlib.Omega.{arith}
-use Rattle.sessions.proofs.Kept.{withdraws-11, withdraws-none, withdraws-one}
 use borrow.Author.Needs.{needs}
 use Rattle.sessions.proofs.table.Table.withdraw.Statement.{statement}
 use Rattle.sessions.proofs.table.Table.withdraw.Tie as tie
 
+withdraw-number-requires : tie.Need-withdraw-number-requires
+withdraw-number-requires c κs = search needs
+
 refuse-requires : tie.Need-refuse-requires
 refuse-requires c κs = search needs
 
-bad-name-requires : tie.Need-bad-name-requires
-bad-name-requires c κs = search needs
+sub-own : tie.Need-sub-own
+sub-own c =
+    let a = c .before .before .before .before .args in
+    let n = c .before .before .withdraw-number in
+    let g = good-name (a .axle) (a .identifier .now) (withdraw-good (a .axle) (a .identifier .now) (sym (n .ensures) ∙ c .if1 .taken)) in
+    omega (arith, g .0)
 
-refuse-requires-2 : tie.Need-refuse-requires-2
-refuse-requires-2 c κs = search needs
+mul-find : tie.Need-mul-find
+mul-find c = search needs
 
-returns : tie.Need-returns
-returns c =
-    let a = c .before .before .before .before .before .args in
-    withdraws-11 (a .self) (a .axle) (a .identifier .now) (c .refuse2 .result) (sym (c .before .before .bad-name .ensures) ∙ c .before .if1 .taken) (c .refuse2 .ensures)
+element-copy-out-find : tie.Need-element-copy-out-find
+element-copy-out-find c =
+    let a = c .before .before .before .before .args in
+    let n = c .before .before .withdraw-number in
+    let g = good-name (a .axle) (a .identifier .now) (withdraw-good (a .axle) (a .identifier .now) (sym (n .ensures) ∙ c .if1 .taken)) in
+    omega (arith, g .0, g .1)
 
 find-requires : tie.Need-find-requires
 find-requires c κs = search needs
 
-size-requires : tie.Need-size-requires
-size-requires c κs = search needs
+mul-taken : tie.Need-mul-taken
+mul-taken c = search needs
 
-returns-2 : tie.Need-returns-2
-returns-2 c =
-    let f = c .before .before .before .before .before in
-    let a = f .before .before .args in
-    withdraws-none (a .self) (a .axle) (a .identifier .now) (f .refuse .result) (sym (c .before .before .before .before .bad-name .ensures) ∙ c .before .before .before .if1 .left) (f .refuse .ensures) (omega arith)
+element-copy-out-taken : tie.Need-element-copy-out-taken
+element-copy-out-taken c =
+    let a = c .before .before .before .before .before .before .args in
+    let n = c .before .before .before .before .withdraw-number in
+    let g = good-name (a .axle) (a .identifier .now) (withdraw-good (a .axle) (a .identifier .now) (sym (n .ensures) ∙ c .before .before .if1 .taken)) in
+    omega (arith, g .0, g .1)
+
+taken-requires : tie.Need-taken-requires
+taken-requires c κs = search needs
+
+mul-without : tie.Need-mul-without
+mul-without c = search needs
+
+element-copy-out-without : tie.Need-element-copy-out-without
+element-copy-out-without c =
+    let a = c .before .before .before .before .before .before .before .before .args in
+    let n = c .before .before .before .before .before .before .withdraw-number in
+    let g = good-name (a .axle) (a .identifier .now) (withdraw-good (a .axle) (a .identifier .now) (sym (n .ensures) ∙ c .before .before .before .before .if1 .taken)) in
+    omega (arith, g .0, g .1)
 
 without-requires : tie.Need-without-requires
 without-requires c κs = search needs
 
-returns-3 : tie.Need-returns-3
-returns-3 c =
-    let f = c .before .before .before .before .before .before in
-    let a = f .before .before .args in
-    let p = c .before .before .before in
-    withdraws-one (a .self) (a .axle) (a .identifier .now) (f .refuse .result) (sym (c .before .before .before .before .before .bad-name .ensures) ∙ c .before .before .before .before .if1 .left) (f .refuse .ensures)
-    (p .find .result) (c .without .result) (p .find .ensures) (omega arith) (c .without .ensures)
+mul-t20 : tie.Need-mul-t20
+mul-t20 c = search needs
+
+element-set-from-table : tie.Need-element-set-from-table
+element-set-from-table c =
+    let a = c .before .before .before .before .before .before .before .before .before .before .args in
+    let n = c .before .before .before .before .before .before .before .before .withdraw-number in
+    let g = good-name (a .axle) (a .identifier .now) (withdraw-good (a .axle) (a .identifier .now) (sym (n .ensures) ∙ c .before .before .before .before .before .before .if1 .taken)) in
+    omega (arith, g .0, g .1)
+
+returns : tie.Need-returns
+returns c =
+    let a = c .before .before .before .before .before .before .before .before .before .before .args in
+    let n = c .before .before .before .before .before .before .before .before .withdraw-number in
+    let g = good-name (a .axle) (a .identifier .now) (withdraw-good (a .axle) (a .identifier .now) (sym (n .ensures) ∙ c .before .before .before .before .before .before .if1 .taken)) in
+    withdraws-done (a .self) (a .axle) (a .identifier .now) (n .result) (c .before .before .before .before .before .before .before .refuse .result) (n .ensures) (c .before .before .before .before .before .before .before .refuse .ensures) (c .before .before .before .before .before .before .if1 .taken)
+    (a .axle - 1) (c .before .before .before .before .find .result) (c .before .before .taken .result) noQueue (c .without .result) (omega (arith, g .0)) (omega (arith, g .0, g .1))
+    (c .before .before .before .before .find .ensures (a .axle)) (c .before .before .taken .ensures (a .axle)) (c .without .ensures)
+
+returns-2 : tie.Need-returns-2
+returns-2 c =
+    let a = c .before .before .before .before .args in
+    withdraws-refused (a .self) (a .axle) (a .identifier .now) (c .before .before .withdraw-number .result) (c .before .refuse .result) (c .before .before .withdraw-number .ensures) (c .before .refuse .ensures) (c .if1 .left)
 
 pub withdraw-spec : {M : Type 1} → statement M
 withdraw-spec =
     tie.close
     (tie.spec
+    withdraw-number-requires
     refuse-requires
-    bad-name-requires
-    refuse-requires-2
-    returns
+    sub-own
+    mul-find
+    element-copy-out-find
     find-requires
-    size-requires
-    returns-2
+    mul-taken
+    element-copy-out-taken
+    taken-requires
+    mul-without
+    element-copy-out-without
     without-requires
-    returns-3)
+    mul-t20
+    element-set-from-table
+    returns
+    returns-2)
