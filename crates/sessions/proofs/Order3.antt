@@ -36,6 +36,7 @@ order3 t t′ h s r =
       blank = λ a k x from to h j.
           ap (λ (q : Queue). getD (q .rows) k x) (queue-is t′ b e a from to)
           ∙ laid-blank (partOf a b) k x (omega (arith, part-length a b, queue-held t′ b e a from to, h)) j;
+      whole = e;
     }
 
 pub met : Met

@@ -8,7 +8,7 @@ use Prim.Native.Nat.{ℕ, _+_, _≤_, _<_}
 use lib.ListN.{length, getD}
 use Rattle.sessions.specs.Book.{Call, empty, bookFrom}
 use Rattle.sessions.specs.History.{History, callsOf, answersOf}
-use Rattle.sessions.specs.Keeps.{partOf, noSession, queueAt, queueOf, heldIn}
+use Rattle.sessions.specs.Keeps.{partOf, noSession, tableOf, queueAt, queueOf, heldIn}
 use Rattle.sessions.specs.OneRow.{freshRow, answersIn}
 use Rattle.sessions.specs.Promises.{Starts}
 use Rattle.sessions.specs.Demand3.{Run, Ran}
@@ -27,8 +27,10 @@ pub record Order3 (h : History) (t : Table) : Type 0 where
   pub room : (a : ℕ) → 1 ≤ a → a ≤ 6 → heldIn t a ≤ 8
   -- 'still with 32 in all'
   pub all : heldIn t 1 + heldIn t 2 + heldIn t 3 + heldIn t 4 + heldIn t 5 + heldIn t 6 ≤ 32
-  -- and every place behind them is blank: of a session given up nothing is left, its secret least of all
+  -- every place behind them is blank,
   pub blank : (a k : ℕ) (r : Row) → 1 ≤ a → a ≤ 6 → heldIn t a ≤ k → k < 8 → getD (queueAt t a .rows) k r ≡ noSession
+  -- and to the last byte the table is that of the six parts: of a session given up nothing is left, its secret least of all
+  pub whole : t ≡ tableOf (bookFrom empty (callsOf h))
 
 -- 'every run of calls from empty': every list of them, refused ones included, with whatever arguments. A run's steps are what the
 -- calls' contracts ensure.
