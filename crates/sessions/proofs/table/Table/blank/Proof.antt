@@ -1,3 +1,5 @@
+-- Six queues without a session.
+-- Assumes nothing.
 use Rattle.sessions.specs.Keeps.{partOf, tableOf}
 use borrow.Author.Needs.{needs}
 use Rattle.sessions.proofs.table.Table.blank.Statement.{statement}

@@ -1,3 +1,5 @@
+-- An empty table, whatever it was.
+-- Assumes nothing.
 use Rattle.sessions.proofs.Kept.{keeps-empty}
 use borrow.Author.Needs.{needs}
 use Rattle.sessions.proofs.table.Table.clear.Statement.{statement}

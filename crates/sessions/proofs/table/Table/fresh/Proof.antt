@@ -1,3 +1,5 @@
+-- It begins empty.
+-- Assumes nothing.
 use Rattle.sessions.proofs.Kept.{keeps-empty}
 use borrow.Author.Needs.{needs}
 use Rattle.sessions.proofs.table.Table.fresh.Statement.{statement}
