@@ -7,7 +7,7 @@
 #include <bearssl.h>
 #include <mbedtls/ssl_cache.h>
 
-enum { PLACES = AXLE_SESSIONS_MAX, LRU_ENTRY = 100 };
+enum { PLACES = AXLE_SESSIONS_MAX, LRU_ENTRY = 100, SUITE = 0x003c };
 
 /* The session at hand, and what a look-up finds of it. */
 static uint8_t axle, identifier[32], secret[48] = {[47] = 7}, out[48];
@@ -24,7 +24,7 @@ static void session(uint8_t of, uint32_t number)
 static AxleTable table, next;
 
 static void ours_clear(void) { table = axle_table_fresh(); }
-static void ours_store(void) { axle_table_store_in(&table, axle, identifier, sizeof identifier, 1, secret, sizeof secret); }
+static void ours_store(void) { axle_table_store_in(&table, axle, identifier, sizeof identifier, 1, SUITE, secret, sizeof secret); }
 
 static int ours_found(void)
 {
@@ -34,7 +34,7 @@ static int ours_found(void)
 /* A store that leaves the table as it was, for the next one to meet it so. */
 static void ours_store_aside(void)
 {
-    next = axle_table_store(table, axle, identifier, sizeof identifier, 1, secret, sizeof secret).table;
+    next = axle_table_store(table, axle, identifier, sizeof identifier, 1, SUITE, secret, sizeof secret).table;
 }
 
 /* Likewise. */
@@ -61,7 +61,7 @@ static void bearssl_clear(void)
 
 static br_ssl_session_parameters parameters(void)
 {
-    br_ssl_session_parameters p = {.session_id_len = 32, .version = BR_TLS12, .cipher_suite = 0x003c};
+    br_ssl_session_parameters p = {.session_id_len = 32, .version = BR_TLS12, .cipher_suite = SUITE};
     memcpy(p.session_id, identifier, 32);
     memcpy(p.master_secret, secret, 48);
     return p;
@@ -95,7 +95,7 @@ static void mbedtls_clear(void)
 
 static mbedtls_ssl_session bare(void)
 {
-    mbedtls_ssl_session s = {.ciphersuite = 0x003c, .id_len = 32};
+    mbedtls_ssl_session s = {.ciphersuite = SUITE, .id_len = 32};
     memcpy(s.id, identifier, 32);
     return s;
 }
@@ -134,19 +134,26 @@ static void mbedtls_store_later(void)
 #ifdef BEFORE
 #include "before.h"
 
+#if BEFORE_AXLE_GATEWAY_VERSION_NUMBER < 700 /* a session had no suite */
+#define BEFORE_SUITE
+#else
+#define BEFORE_SUITE SUITE,
+#endif
+
 static before_AxleTable earlier, earlier_next;
 
 static void before_clear(void) { earlier = before_axle_table_fresh(); }
 
 static void before_store(void)
 {
-    before_AxleStored answer = before_axle_table_store(earlier, axle, identifier, sizeof identifier, 1, secret, sizeof secret);
+    before_AxleStored answer =
+        before_axle_table_store(earlier, axle, identifier, sizeof identifier, 1, BEFORE_SUITE secret, sizeof secret);
     earlier = answer.table;
 }
 
 static void before_store_aside(void)
 {
-    earlier_next = before_axle_table_store(earlier, axle, identifier, sizeof identifier, 1, secret, sizeof secret).table;
+    earlier_next = before_axle_table_store(earlier, axle, identifier, sizeof identifier, 1, BEFORE_SUITE secret, sizeof secret).table;
 }
 
 static int before_withdraw_aside(void)

@@ -65,12 +65,12 @@ static size_t client_hello(uint8_t *out, size_t room, const uint8_t *identifier,
 }
 
 /* Our server's hello, with the reply that was decided. */
-static size_t server_hello(uint8_t *out, size_t room, const uint8_t *identifier, size_t length, const uint8_t *reply,
+static size_t server_hello(uint8_t *out, size_t room, const uint8_t *identifier, size_t length, uint16_t suite, const uint8_t *reply,
                            size_t reply_length)
 {
     static const uint8_t random[AXLE_RANDOM_SIZE] = {'s', 'e', 'r', 'v', 'e', 'r'};
     List list = listed(reply, reply_length);
-    AxleWritten written = axle_write_server_hello(VERSION, random, sizeof random, identifier, length, SUITE, 0, reply_length > 0,
+    AxleWritten written = axle_write_server_hello(VERSION, random, sizeof random, identifier, length, suite, 0, reply_length > 0,
                                                   list.types, list.count, list.lengths, list.count, list.data, list.used, out, room);
     done(written.refusal, "our ServerHello");
     return written.length;
@@ -93,8 +93,9 @@ static void finish(AxleLog *log, const uint8_t *secret)
     }
 }
 
-/* Both hellos: the server decides and replies, the client decides on the reply; both must see the same. */
-static AxleDecision hellos(AxleLog *log, AxleTable table, const uint8_t *offered, size_t length)
+/* Both hellos: the server decides and replies, the client decides on the reply; both must see the same. Where they resume, the
+ * server's hello names the session's suite, and the session's secret goes to `secret`. */
+static AxleDecision hellos(AxleLog *log, AxleTable table, const uint8_t *offered, size_t length, uint8_t *secret)
 {
     const AxleConnection fresh = axle_connection_fresh();
     static const uint8_t renewed[4] = {'n', 'e', 'x', 't'};
@@ -104,9 +105,14 @@ static AxleDecision hellos(AxleLog *log, AxleTable table, const uint8_t *offered
     done(server.refusal, "the server's decision");
     *log = axle_log_fresh();
     accept(log, hello, n, 0);
-    n = server.resumes ? server_hello(answer, sizeof answer, offered, length, reply, server.reply_length)
-                       : server_hello(answer, sizeof answer, renewed, sizeof renewed, reply, server.reply_length);
-    AxleDecision client = axle_decide_client(answer, n, offered, length, length > 0, offered, length, 1, fresh, strict);
+    if (server.resumes) {
+        AxleLooked session = axle_table_look_up(table, AXLE, offered, length, secret, AXLE_SECRET_SIZE);
+        done(session.refusal, "the look-up");
+        n = server_hello(answer, sizeof answer, offered, length, session.suite, reply, server.reply_length);
+    } else {
+        n = server_hello(answer, sizeof answer, renewed, sizeof renewed, SUITE, reply, server.reply_length);
+    }
+    AxleDecision client = axle_decide_client(answer, n, offered, length, length > 0, offered, length, 1, SUITE, fresh, strict);
     done(client.refusal, "the client's decision");
     if (client.resumes != server.resumes || client.ems != server.ems || client.indication != server.indication)
         exit(1);
@@ -123,7 +129,7 @@ int main(void)
     AxleLog log;
     uint8_t bytes[64], secret[AXLE_SECRET_SIZE];
 
-    AxleDecision decision = hellos(&log, table, NULL, 0);
+    AxleDecision decision = hellos(&log, table, NULL, 0, secret);
     static const uint8_t between[] = {CERTIFICATE, HELLO_DONE, KEY_EXCHANGE};
     for (size_t i = 0; i < sizeof between; i++)
         accept(&log, bytes, message(bytes, between[i], bytes, 0), 0);
@@ -133,13 +139,12 @@ int main(void)
          "the secret");
     finish(&log, secret);
     done(axle_complete(&connection, log, decision), "completion");
-    done(axle_table_store_in(&table, AXLE, identifier, sizeof identifier, decision.ems, secret, sizeof secret), "the store");
+    done(axle_table_store_in(&table, AXLE, identifier, sizeof identifier, decision.ems, SUITE, secret, sizeof secret), "the store");
     printf("completed: %d, axle %d holds %d\n", connection.completed, AXLE, axle_table_held(table, AXLE).count);
 
     axle_wipe(secret, sizeof secret);
     connection = axle_connection_fresh();
-    decision = hellos(&log, table, identifier, sizeof identifier);
-    done(axle_table_look_up(table, AXLE, identifier, sizeof identifier, secret, sizeof secret).refusal, "the look-up");
+    decision = hellos(&log, table, identifier, sizeof identifier, secret);
     finish(&log, secret);
     done(axle_complete(&connection, log, decision), "completion");
     printf("completed: %d\n", connection.completed);

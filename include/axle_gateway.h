@@ -32,7 +32,7 @@
  * they need memcpy and memset alone, so a program without one brings these two.
  *
  * Stack. AXLE_STACK_.. at the end of this file has the bytes for each call. Answers lie in the caller's own frame, also those
- * that an _in function asks for: one with a table has 3,960 bytes.
+ * that an _in function asks for: one with a table has 4,056 bytes.
  */
 #ifndef AXLE_GATEWAY_H
 #define AXLE_GATEWAY_H
@@ -49,10 +49,10 @@ extern "C" {
 /* The first number is 0 for as long as a struct or a call may change from one minor version to the next; a patch changes
  * neither. So the shared library's soname has the first two. tools/build reads the numbers here. */
 #define AXLE_GATEWAY_VERSION_MAJOR 0
-#define AXLE_GATEWAY_VERSION_MINOR 6
+#define AXLE_GATEWAY_VERSION_MINOR 7
 #define AXLE_GATEWAY_VERSION_PATCH 0
-#define AXLE_GATEWAY_VERSION "0.6.0"
-/* for #if: 600 is 0.6.0, 10203 is 1.2.3 */
+#define AXLE_GATEWAY_VERSION "0.7.0"
+/* for #if: 700 is 0.7.0, 10203 is 1.2.3 */
 #define AXLE_GATEWAY_VERSION_NUMBER \
     (AXLE_GATEWAY_VERSION_MAJOR * 10000 + AXLE_GATEWAY_VERSION_MINOR * 100 + AXLE_GATEWAY_VERSION_PATCH)
 
@@ -99,7 +99,8 @@ enum {
     AXLE_FINISHED_DIFFERS = 8,       /* fatal decrypt_error */
     AXLE_RENEGOTIATION_CLOSED = 9,   /* warning no_renegotiation */
     AXLE_LENGTH = 10,                /* a lent length outside its bounds: no alert */
-    AXLE_AXLE_OR_IDENTIFIER = 11     /* axle not 1 to 6, or identifier not 1 to 32 bytes: no alert */
+    AXLE_AXLE_OR_IDENTIFIER = 11,    /* axle not 1 to 6, or identifier not 1 to 32 bytes: no alert */
+    AXLE_SUITE = 12                  /* a ServerHello resumes with another suite than the session's: fatal illegal_parameter */
 };
 
 enum { AXLE_ALERT_NONE = 0, AXLE_ALERT_WARNING = 1, AXLE_ALERT_FATAL = 2 };
@@ -309,7 +310,8 @@ AxleWritten axle_write_client_hello(uint16_t version, const uint8_t *random, siz
                                     size_t types_length, const uint16_t *lengths, size_t lengths_length, const uint8_t *data,
                                     size_t data_length, uint8_t *out, size_t out_length);
 
-/* The same for a ServerHello, with one suite and one method. */
+/* The same for a ServerHello, with one suite and one method. In one that resumes the suite is the session's, which
+ * axle_table_look_up hands out: our client refuses another one with 12. */
 AxleWritten axle_write_server_hello(uint16_t version, const uint8_t *random, size_t random_length, const uint8_t *identifier,
                                     size_t identifier_length, uint16_t suite, uint8_t compression, uint8_t block,
                                     const uint16_t *types, size_t types_length, const uint16_t *lengths, size_t lengths_length,
@@ -321,6 +323,7 @@ AxleWritten axle_write_server_hello(uint16_t version, const uint8_t *random, siz
 typedef struct {
     uint8_t ems;
     uint8_t size;
+    uint8_t suite[2]; /* the high byte first, as in a hello */
     uint8_t identifier[32];
     uint8_t secret[48];
 } AxleRow;
@@ -331,7 +334,7 @@ typedef struct {
     uint8_t held;
 } AxleQueue;
 
-/* The sessions of all six axles, a queue for each, axle 1's first: at most 8 an axle and 32 in all. 3,942 bytes, no padding. */
+/* The sessions of all six axles, a queue for each, axle 1's first: at most 8 an axle and 32 in all. 4,038 bytes, no padding. */
 typedef struct {
     AxleQueue queues[6];
 } AxleTable;
@@ -344,7 +347,8 @@ typedef struct {
 typedef struct {
     AxleRefusal refusal; /* 0, 10 or 11 */
     uint8_t found;
-    uint8_t ems; /* of the session found: was its secret made with extended_master_secret? */
+    uint8_t ems;    /* of the session found: was its secret made with extended_master_secret? */
+    uint16_t suite; /* of the session found; else 0 */
 } AxleLooked;
 
 typedef struct {
@@ -366,23 +370,25 @@ typedef struct {
 /* An empty table. */
 AxleTable axle_table_fresh(void);
 
-/* Stores a session: axle 1 to 6 and an identifier of 1 to 32 bytes, else 11; a secret of 48 bytes, else 10. A session
- * under the same axle and identifier is replaced; where there is no room, the rules of document 01 say which one goes. */
+/* Stores a session: axle 1 to 6 and an identifier of 1 to 32 bytes, else 11; a secret of 48 bytes, else 10. `suite` is the
+ * cipher suite that it was made with, which the ServerHello of that handshake names (0x003b is 00 3b); any number is kept, none
+ * is refused. A session under the same axle and identifier is replaced; where there is no room, the rules of document 01 say
+ * which one goes. */
 AxleStored axle_table_store(AxleTable table, uint8_t axle, const uint8_t *identifier, size_t identifier_length, uint8_t ems,
-                            const uint8_t *secret, size_t secret_length);
+                            uint16_t suite, const uint8_t *secret, size_t secret_length);
 
 /* The same, on a table in place. */
 static inline AxleRefusal axle_table_store_in(AxleTable *table, uint8_t axle, const uint8_t *identifier,
-                                              size_t identifier_length, uint8_t ems, const uint8_t *secret,
+                                              size_t identifier_length, uint8_t ems, uint16_t suite, const uint8_t *secret,
                                               size_t secret_length)
 {
-    AxleStored answer = axle_table_store(*table, axle, identifier, identifier_length, ems, secret, secret_length);
+    AxleStored answer = axle_table_store(*table, axle, identifier, identifier_length, ems, suite, secret, secret_length);
     *table = answer.table;
     return answer.refusal;
 }
 
-/* Looks a session up. Found, its secret goes to the first 48 bytes of `out`; 10, with nothing written, where `out` is
- * shorter. Where none is found nothing is written and no `out` is too short. */
+/* Looks a session up. Found, it is answered with its suite, and its secret goes to the first 48 bytes of `out`; 10, with
+ * nothing written, where `out` is shorter. Where none is found nothing is written and no `out` is too short. */
 AxleLooked axle_table_look_up(AxleTable table, uint8_t axle, const uint8_t *identifier, size_t identifier_length, uint8_t *out,
                               size_t out_length);
 
@@ -450,18 +456,23 @@ typedef struct {
  * from place 2 on, hands out the list for axle_write_server_hello. 11 for the axle; 10, 1, 2, 3 for the hello, with the place
  * that reading it answers; 9 or 5 for renegotiation; 6 for the master secret rule; last 10 where `out` is shorter than the reply.
  *
+ * A session resumes only where the hello lists its suite (RFC 5246, section 7.4.1.2). A known one whose suite is not listed
+ * counts as none, before anything else is asked of it: all is answered as without it, and it stays in the table. Where the
+ * answer is `resumes`, our ServerHello must name the session's suite: look it up.
+ *
  * It reads the hello, so it costs what reading costs: 21 to 30 ms for 16,388 bytes with 4,085 extensions, and 33 to 47 of them
  * a second fill a core. Bound the length that an axle may send before it is known. */
 AxleDecision axle_decide_server(const uint8_t *message, size_t length, uint8_t axle, AxleTable table, AxleConnection connection,
                                 AxleSwitches switches, uint8_t *out, size_t out_length);
 
 /* The client's decision on a ServerHello that answers our own hello: `offered` is the identifier that it offered, empty for
- * none, and `session` tells whether a session is lent along, with its own `identifier` and `ems`. 11 for an offer over 32
+ * none, and `session` tells whether a session is lent along, with its own `identifier`, `ems` and `suite`. 11 for an offer over 32
  * bytes or without a session that bears it; 10, 1, 2, 3, 4 for the hello, with the place that reading it answers; 7 or 5 for
- * renegotiation; 6 for the master secret rule. */
+ * renegotiation; 12 where it resumes, which is naming the identifier offered, with another suite than the session's; 6 for the
+ * master secret rule. In a ServerHello that does not resume the suite is not judged. */
 AxleDecision axle_decide_client(const uint8_t *message, size_t length, const uint8_t *offered, size_t offered_length,
                                 uint8_t session, const uint8_t *identifier, size_t identifier_length, uint8_t ems,
-                                AxleConnection connection, AxleSwitches switches);
+                                uint16_t suite, AxleConnection connection, AxleSwitches switches);
 
 /* ---- The message log -------------------------------------------------------------------------------------------- */
 
@@ -560,14 +571,14 @@ enum {
     AXLE_STACK_WRITE_CLIENT_HELLO = 184,
     AXLE_STACK_WRITE_SERVER_HELLO = 192,
     AXLE_STACK_TABLE_FRESH = 8,
-    AXLE_STACK_TABLE_STORE = 10104,
-    AXLE_STACK_TABLE_LOOK_UP = 5592,
-    AXLE_STACK_TABLE_WITHDRAW = 9320,
-    AXLE_STACK_TABLE_HELD = 3960,
-    AXLE_STACK_TABLE_CLEAR = 7944,
+    AXLE_STACK_TABLE_STORE = 10344,
+    AXLE_STACK_TABLE_LOOK_UP = 5720,
+    AXLE_STACK_TABLE_WITHDRAW = 9528,
+    AXLE_STACK_TABLE_HELD = 4056,
+    AXLE_STACK_TABLE_CLEAR = 8136,
     AXLE_STACK_CONNECTION_FRESH = 8,
-    AXLE_STACK_DECIDE_SERVER = 5880,
-    AXLE_STACK_DECIDE_CLIENT = 752,
+    AXLE_STACK_DECIDE_SERVER = 6024,
+    AXLE_STACK_DECIDE_CLIENT = 768,
     AXLE_STACK_LOG_FRESH = 8,
     AXLE_STACK_LOG_ACCEPT = 1184,
     AXLE_STACK_LOG_SESSION_HASH = 224,

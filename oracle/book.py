@@ -1,9 +1,9 @@
-"""Document 01, 'Table of 32': the plain book."""
+"""Document 01, 'Table of 32': the plain book; a session has its suite by order 2 of document 02."""
 
 
 class Book:
     def __init__(self):
-        self.row = []  # (axle, identifier, ems, secret), oldest first
+        self.row = []  # (axle, identifier, ems, suite, secret), oldest first
 
     def _of(self, axle):
         return [s for s in self.row if s[0] == axle]
@@ -15,7 +15,7 @@ class Book:
     def _fault(axle, identifier=b"\x00"):
         return 0 if 1 <= axle <= 6 and 1 <= len(identifier) <= 32 else 11
 
-    def store(self, axle, identifier, ems, secret):
+    def store(self, axle, identifier, ems, suite, secret):
         """number"""
         if self._fault(axle, identifier):
             return 11
@@ -35,19 +35,19 @@ class Book:
                 struck = self._of(most)[0]
         if struck is not None:
             self.row.remove(struck)
-        self.row.append((axle, identifier, ems, secret))
+        self.row.append((axle, identifier, ems, suite, secret))
         return 0
 
     def look_up(self, axle, identifier, out):
-        """(number, found, ems, out afterwards)"""
+        """(number, found, ems, suite, out afterwards)"""
         if self._fault(axle, identifier):
-            return 11, False, False, out
+            return 11, False, False, 0, out
         s = self._find(axle, identifier)
         if s is None:
-            return 0, False, False, out
+            return 0, False, False, 0, out
         if len(out) < 48:
-            return 10, False, False, out
-        return 0, True, s[2], s[3] + out[48:]
+            return 10, False, False, 0, out
+        return 0, True, s[2], s[3], s[4] + out[48:]
 
     def withdraw(self, axle, identifier):
         """(number, withdrawn)"""
@@ -69,6 +69,6 @@ class Book:
         return 0
 
     def known(self, axle, identifier):
-        """None, or whether the session has EMS."""
+        """None, or whether the session has EMS, and its suite."""
         s = self._find(axle, identifier)
-        return None if s is None else s[2]
+        return None if s is None else s[2:4]

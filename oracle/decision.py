@@ -1,5 +1,5 @@
-"""Document 01, 'Connection record', 'Server's decision', 'Client's decision'. The place of a 1 or 2 (order 9 of document 02) is
-the reading's."""
+"""Document 01, 'Connection record', 'Server's decision', 'Client's decision'; order 2 of document 02, 'The resumed suite must be on
+offer'. The place of a 1 or 2 (order 9) is the reading's."""
 
 from dataclasses import dataclass
 
@@ -59,7 +59,7 @@ def reply(record, decision):
 
 
 def server(message, axle, find, record, switches, out):
-    """(Decision, out afterwards, length of the reply). find(axle, identifier) answers None or whether the session has EMS."""
+    """(Decision, out afterwards, length of the reply). find(axle, identifier) answers None or the session's EMS and suite."""
 
     def refused(number, place=0):
         return Decision(number, place), out, 0
@@ -82,7 +82,9 @@ def server(message, axle, find, record, switches, out):
         if hello.signal or ri is None or ri != record.client:
             return refused(5)
         flag = True
-    session = find(axle, hello.identifier) if hello.identifier else None
+    known = find(axle, hello.identifier) if hello.identifier else None
+    # "a known session whose suite isn't listed counts as none", before anything else is asked of it
+    session = known[0] if known is not None and known[1] in hello.listed else None
     if session is None or (session is False and hello.ems):
         if hello.ems:
             made = _outcome(flag, False, True)
@@ -105,7 +107,7 @@ def server(message, axle, find, record, switches, out):
 
 
 def client(message, offered, session, record, switches):
-    """session: None, or (identifier, whether it has EMS)."""
+    """session: None, or (identifier, whether it has EMS, suite)."""
     if len(offered) > 32 or (offered and (session is None or session[0] != offered)):
         return Decision(11)
     number, place, hello = read_server_hello(message)
@@ -130,6 +132,8 @@ def client(message, offered, session, record, switches):
             return Decision(5)
         flag = True
     if offered and hello.identifier == offered:
+        if hello.listed != [session[2]]:
+            return Decision(12)
         if hello.ems != session[1]:
             return Decision(6)
         if not hello.ems and not switches.legacy_resumption:

@@ -5,7 +5,7 @@ from dataclasses import dataclass, field
 MESSAGE_LIMIT = 16_388
 EMS = 0x0017
 RI = 0xFF01
-SIGNAL = b"\x00\xff"
+SIGNAL = 0x00FF
 
 
 class Malformed(Exception):
@@ -69,8 +69,13 @@ class Hello:
     extensions: list = field(default_factory=list)  # (type, data) in order
 
     @property
+    def listed(self):
+        """The suites as 16-bit numbers, two whole bytes each, the first one the high one."""
+        return [int.from_bytes(self.suites[i : i + 2], "big") for i in range(0, len(self.suites), 2)]
+
+    @property
     def signal(self):
-        return any(self.suites[i : i + 2] == SIGNAL for i in range(0, len(self.suites), 2))
+        return SIGNAL in self.listed
 
     def extension(self, kind):
         return next((data for t, data in self.extensions if t == kind), None)

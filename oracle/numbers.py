@@ -1,4 +1,5 @@
-"""Document 01, 'Numbers answered', and order 9 of document 02, 'Tell us where the message broke'."""
+"""Document 01, 'Numbers answered', with 12 of order 2 of document 02, 'The resumed suite must be on offer', and the place of order 9,
+'Tell us where the message broke'."""
 
 NONE, WARNING, FATAL = 0, 1, 2
 
@@ -12,6 +13,7 @@ ALERTS = {
     7: (FATAL, 10),  # unexpected_message
     8: (FATAL, 51),  # decrypt_error
     9: (WARNING, 100),  # no_renegotiation
+    12: (FATAL, 47),  # illegal_parameter
 }
 
 PLACED = (1, 2)  # the numbers that have a place where they come from a message; all else has place 0

@@ -2,13 +2,14 @@
 line and with its names.
 
 One row of 32 places and how many of them are taken: a session is found, counted, struck out and written by its place. It is not
-the plain book, from which it takes nothing. A session is (axle, identifier, ems, secret); a call is its name and its arguments.
+the plain book, from which it takes nothing. A session is (axle, identifier, ems, suite, secret), of which only the suite is younger
+than the layout (order 2); a call is its name and its arguments.
 """
 
 from typing import NamedTuple
 
 PLACES = 32
-BLANK = (0, b"", False, bytes(48))
+BLANK = (0, b"", False, 0, bytes(48))
 
 
 class OneRow(NamedTuple):
@@ -139,7 +140,7 @@ def bad_name(a, i):
 
 
 def too_short(out, found):
-    return found is not None and len(out) < len(found[3])
+    return found is not None and len(out) < len(found[4])
 
 
 def first_of(*tests):
@@ -148,7 +149,7 @@ def first_of(*tests):
 
 
 def store_number(s):
-    return first_of((11, bad_name(s[0], s[1])), (10, len(s[3]) != 48))
+    return first_of((11, bad_name(s[0], s[1])), (10, len(s[4]) != 48))
 
 
 def withdraw_number(a, i):
@@ -168,7 +169,7 @@ def granted(n, x, refused):
 
 def handed(out, found):
     """What the lent output holds afterwards."""
-    return out if found is None else found[3] + out[len(found[3]) :]
+    return out if found is None else found[4] + out[len(found[4]) :]
 
 
 def answer_in(r, call):

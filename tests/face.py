@@ -164,7 +164,7 @@ write_server_hello = declare("axle_write_server_hello", Written, u16, BYTES, BYT
 
 
 class Row(c.Structure):
-    _fields_ = [("ems", u8), ("size", u8), ("identifier", u8 * 32), ("secret", u8 * 48)]
+    _fields_ = [("ems", u8), ("size", u8), ("suite", u8 * 2), ("identifier", u8 * 32), ("secret", u8 * 48)]
 
 
 class Queue(c.Structure):
@@ -180,7 +180,7 @@ class Stored(c.Structure):
 
 
 class Looked(c.Structure):
-    _fields_ = [("refusal", Refusal), ("found", u8), ("ems", u8)]
+    _fields_ = [("refusal", Refusal), ("found", u8), ("ems", u8), ("suite", u16)]
 
 
 class Withdrawn(c.Structure):
@@ -197,7 +197,7 @@ class Cleared(c.Structure):
 
 sizeof_table = c.sizeof(Table)
 table_fresh = declare("axle_table_fresh", Table)
-table_store = declare("axle_table_store", Stored, Table, u8, BYTES, u8, BYTES)
+table_store = declare("axle_table_store", Stored, Table, u8, BYTES, u8, u16, BYTES)
 table_look_up = declare("axle_table_look_up", Looked, Table, u8, BYTES, LENT)
 table_withdraw = declare("axle_table_withdraw", Withdrawn, Table, u8, BYTES)
 table_held = declare("axle_table_held", Held, Table, u8)
@@ -275,7 +275,7 @@ class Decision(c.Structure):
 
 connection_fresh = declare("axle_connection_fresh", Connection)
 decide_server = declare("axle_decide_server", Decision, BYTES, u8, Table, Connection, Switches, LENT)
-decide_client = declare("axle_decide_client", Decision, BYTES, BYTES, u8, BYTES, u8, Connection, Switches)
+decide_client = declare("axle_decide_client", Decision, BYTES, BYTES, u8, BYTES, u8, u16, Connection, Switches)
 complete = declare("axle_complete", Refusal, c.POINTER(Connection), Log, Decision)
 
 

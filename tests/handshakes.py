@@ -13,6 +13,8 @@ from dataclasses import dataclass
 DATA = pathlib.Path(__file__).resolve().parent / "data"
 CERTIFICATE, KEY = str(DATA / "test-only.crt"), str(DATA / "test-only.key")
 NO_EXTENDED_MASTER_SECRET = 1  # OpenSSL's SSL_OP_NO_EXTENDED_MASTER_SECRET
+NO_ENCRYPT_THEN_MAC = 1 << 19  # and its SSL_OP_NO_ENCRYPT_THEN_MAC
+SUITE = 0x003B  # of NULL-SHA256
 MAC = 32  # bytes of HMAC-SHA256 behind each record once the cipher is on
 
 
@@ -137,3 +139,53 @@ def full_and_resumed(client_certificate=False, ems=True):
         again, _, messages = _run(client, server, c.session)
         assert again.session_reused
         return first, _handshake(messages, keylog.name, 1, True, ems)
+
+
+# ---- A session whose suite is another one the second time
+
+
+def _sent(end, out):
+    """What an end sends when it goes on: an alert where it refuses."""
+    try:
+        end.do_handshake()
+    except ssl.SSLError:  # to want more bytes is one of them
+        pass
+    return out.read()
+
+
+def offered_with(*lists):
+    """A full handshake; and for each list of OpenSSL's names the ClientHello of the same client, once these are its suites, with the
+    session of that handshake in it. OpenSSL's client offers its session whatever suites it lists beside it."""
+    with tempfile.NamedTemporaryFile() as keylog:
+        client, server = _contexts(False, True, keylog.name)
+        c, _kept, messages = _run(client, server)
+        full, hellos = _handshake(messages, keylog.name, 0, False, True), []
+        for names in lists:
+            client.set_ciphers(f"{names}:@SECLEVEL=0")
+            side, out = _Side(), ssl.MemoryBIO()
+            side.feed(_sent(client.wrap_bio(ssl.MemoryBIO(), out, session=c.session), out))
+            hellos += side.out
+        return full, hellos
+
+
+def resumed_with(suite):
+    """A resumption between OpenSSL's ends whose ServerHello comes to the client with this suite in it: the identifier offered, that
+    ServerHello, and the alert that the client answers, level and code; None where it sends none. The client lists AES128-SHA256,
+    00 3c, besides the session's suite, and no extension that ours does not offer."""
+    with tempfile.NamedTemporaryFile() as keylog:
+        client, server = _contexts(False, True, keylog.name)
+        client.set_ciphers("NULL-SHA256:AES128-SHA256:@SECLEVEL=0")
+        client.options |= NO_ENCRYPT_THEN_MAC
+        c, _kept, _ = _run(client, server)
+        c_in, c_out, s_in, s_out = (ssl.MemoryBIO() for _ in range(4))
+        again = client.wrap_bio(c_in, c_out, session=c.session)
+        s_in.write(_sent(again, c_out))
+        flight = _sent(server.wrap_bio(s_in, s_out, server_side=True), s_out)
+        at = 5 + 4 + 2 + 32  # of the identifier's length: behind the headers of record and message, version and random
+        at += 1 + flight[at]
+        flight = flight[:at] + suite.to_bytes(2, "big") + flight[at + 2 :]
+        side = _Side()
+        side.feed(flight)
+        c_in.write(flight)
+        said = _sent(again, c_out)
+        return c.session.id, side.out[0], (said[5], said[6]) if said[:1] == b"\x15" else None

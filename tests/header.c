@@ -1,6 +1,6 @@
 /* What include/axle_gateway.h says beside the calls: versions, sizes, parts of what is absent, places, NULL with length 0, the lists
- * of a writer, the functions that keep a state in place, and what a table has left of sessions given up. It is C99 and C++ at once;
- * each case that is not so is a line, and the last line counts them all. */
+ * of a writer, suites, the functions that keep a state in place, and what a table has left of sessions given up. It is C99 and C++ at
+ * once; each case that is not so is a line, and the last line counts them all. */
 #include "axle_gateway.h"
 
 #include <stdio.h>
@@ -17,7 +17,7 @@ static int cases, wrong;
         }                                                        \
     } while (0)
 
-enum { CLIENT_HELLO = 1, SERVER_HELLO = 2, HELLO_DONE = 14, KEY_EXCHANGE = 16, FINISHED = 20 };
+enum { CLIENT_HELLO = 1, SERVER_HELLO = 2, HELLO_DONE = 14, KEY_EXCHANGE = 16, FINISHED = 20, SUITE = 0x003c };
 
 static uint8_t bytes[AXLE_HASH_MAX + 1];
 static const uint8_t secret[AXLE_SECRET_SIZE] = {1, 2, 3};
@@ -55,8 +55,8 @@ static size_t hello(uint8_t *to, uint8_t type, const uint8_t *rest, size_t lengt
 
 /* ---- Version and sizes ------------------------------------------------------------------------------------------- */
 
-#if AXLE_GATEWAY_VERSION_NUMBER < 600
-#error "older than 0.6.0"
+#if AXLE_GATEWAY_VERSION_NUMBER < 700
+#error "older than 0.7.0"
 #endif
 
 static void versions(void)
@@ -106,21 +106,21 @@ static void sizes(void)
     IS(axle_extended_master_secret(bytes, 1, bytes, AXLE_DIGEST_SIZE, out, AXLE_SECRET_SIZE - 1).number == AXLE_LENGTH);
     IS(axle_master_secret(bytes, 1, bytes, 2 * AXLE_RANDOM_SIZE, out, AXLE_SECRET_SIZE).number == AXLE_DONE);
 
-    IS(axle_table_store(table, AXLE_AXLES, name, AXLE_IDENTIFIER_MAX, 0, secret, AXLE_SECRET_SIZE).refusal.number == AXLE_DONE);
-    IS(axle_table_store(table, AXLE_AXLES, bytes, AXLE_IDENTIFIER_MAX + 1, 0, secret, AXLE_SECRET_SIZE).refusal.number
+    IS(axle_table_store(table, AXLE_AXLES, name, AXLE_IDENTIFIER_MAX, 0, SUITE, secret, AXLE_SECRET_SIZE).refusal.number == AXLE_DONE);
+    IS(axle_table_store(table, AXLE_AXLES, bytes, AXLE_IDENTIFIER_MAX + 1, 0, SUITE, secret, AXLE_SECRET_SIZE).refusal.number
        == AXLE_AXLE_OR_IDENTIFIER);
     IS(axle_table_held(table, AXLE_AXLES + 1).refusal.number == AXLE_AXLE_OR_IDENTIFIER);
     for (n = 0, i = 0; i < 6 * 16; i++)
-        axle_table_store_in(&table, (uint8_t)(1 + i / 16), &i, 1, 0, secret, sizeof secret);
+        axle_table_store_in(&table, (uint8_t)(1 + i / 16), &i, 1, 0, SUITE, secret, sizeof secret);
     for (i = 1; i <= AXLE_AXLES; i++)
         n += axle_table_held(table, i).count;
     IS(n == AXLE_SESSIONS_MAX);
     table = axle_table_fresh();
     for (i = 0; i < 16; i++)
-        axle_table_store_in(&table, 1, &i, 1, 0, secret, sizeof secret);
+        axle_table_store_in(&table, 1, &i, 1, 0, SUITE, secret, sizeof secret);
     IS(axle_table_held(table, 1).count == AXLE_SESSIONS_AN_AXLE);
-    IS(sizeof(AxleTable) == 3942 && sizeof(AxleTable) == AXLE_AXLES * (AXLE_SESSIONS_AN_AXLE * (2 + 32 + AXLE_SECRET_SIZE) + 1));
-    IS(sizeof(AxleStored) == 3960 && sizeof(AxleWithdrawn) == 3960 && sizeof(AxleCleared) == 3960);
+    IS(sizeof(AxleTable) == 4038 && sizeof(AxleTable) == AXLE_AXLES * (AXLE_SESSIONS_AN_AXLE * (2 + 2 + 32 + AXLE_SECRET_SIZE) + 1));
+    IS(sizeof(AxleStored) == 4056 && sizeof(AxleWithdrawn) == 4056 && sizeof(AxleCleared) == 4056);
     IS(sizeof axle_log_expected_finished(axle_log_fresh(), secret, sizeof secret).value == AXLE_VERIFY_DATA_SIZE);
 }
 
@@ -182,8 +182,8 @@ static void hello_broke(const uint8_t *block, size_t length, uint8_t number, siz
     IS(broke(axle_read_client_hello(bytes, n - 1).refusal, AXLE_MALFORMED, 1));
     n = hello(bytes, SERVER_HELLO, block, length);
     IS(broke(axle_read_server_hello(bytes, n).refusal, number, 42 + behind));
-    IS(broke(axle_decide_client(bytes, n, NULL, 0, 0, NULL, 0, 0, fresh, none).refusal, number, 42 + behind));
-    IS(broke(axle_decide_client(bytes, n, name, 1, 0, NULL, 0, 0, fresh, none).refusal, AXLE_AXLE_OR_IDENTIFIER, 0));
+    IS(broke(axle_decide_client(bytes, n, NULL, 0, 0, NULL, 0, 0, 0, fresh, none).refusal, number, 42 + behind));
+    IS(broke(axle_decide_client(bytes, n, name, 1, 0, NULL, 0, 0, 0, fresh, none).refusal, AXLE_AXLE_OR_IDENTIFIER, 0));
 }
 
 static void places(void)
@@ -284,12 +284,52 @@ static void writing(void)
     IS(LONG(longest, sizeof out).refusal.number == AXLE_LENGTH);
 }
 
+/* ---- Suites -------------------------------------------------------------------------------------------------------- */
+
+/* A session from store to look-up, from there into a ServerHello, and before both decisions. `name` is the identifier. */
+static void suites(void)
+{
+    static const uint16_t some[] = {0, 1, 0x00ff, SUITE, 0x1234, 0x3412, 0xff00, 0xffff};
+    static const uint8_t empty[] = {0};
+    const AxleTable fresh = axle_table_fresh();
+    const AxleConnection first = axle_connection_fresh();
+    const AxleSwitches none = {0, 0, 0};
+    uint8_t found[AXLE_SECRET_SIZE], listed[4], reply[AXLE_REPLY_MAX];
+    size_t i, j, n;
+    for (i = 0; i < sizeof some / sizeof *some; i++) {
+        const AxleTable table = axle_table_store(fresh, 5, name, sizeof name, 1, some[i], secret, sizeof secret).table;
+        const AxleLooked looked = axle_table_look_up(table, 5, name, sizeof name, found, sizeof found);
+        IS(looked.found && looked.suite == some[i]);
+        IS(table.queues[4].rows[0].suite[0] == some[i] >> 8 && table.queues[4].rows[0].suite[1] == (some[i] & 255));
+        IS(axle_table_look_up(table, 6, name, sizeof name, found, sizeof found).suite == 0);
+        IS(axle_table_look_up(table, 5, name, sizeof name, found, 47).suite == 0);
+        for (j = 0; j < sizeof some / sizeof *some; j++) {
+            AxleDecision decision;
+            const uint8_t resumes = i == j;
+            listed[0] = 0x7f, listed[1] = 0xff, listed[2] = (uint8_t)(some[j] >> 8), listed[3] = (uint8_t)some[j];
+            n = axle_write_client_hello(0x0303, name, 32, name, sizeof name, listed, sizeof listed, empty, 1, 1, types, 2, lengths, 2,
+                                        empty, 1, bytes, sizeof bytes)
+                    .length;
+            decision = axle_decide_server(bytes, n, 5, table, first, none, reply, sizeof reply);
+            IS(decision.refusal.number == AXLE_DONE && decision.resumes == resumes && decision.ems && decision.reply_length == 11);
+            n = axle_write_server_hello(0x0303, name, 32, name, sizeof name, some[j], 0, 1, types, 2, lengths, 2, empty, 1, bytes,
+                                        sizeof bytes)
+                    .length;
+            decision = axle_decide_client(bytes, n, name, sizeof name, 1, name, sizeof name, 1, looked.suite, first, none);
+            IS(broke(decision.refusal, resumes ? AXLE_DONE : AXLE_SUITE, 0) && decision.resumes == resumes);
+            IS(resumes || (decision.refusal.level == AXLE_ALERT_FATAL && decision.refusal.code == 47));
+            decision = axle_decide_client(bytes, n, NULL, 0, 1, name, sizeof name, 1, looked.suite, first, none);
+            IS(decision.refusal.number == AXLE_DONE && !decision.resumes);
+        }
+    }
+}
+
 /* ---- NULL with a length of 0, in every call that is lent something ------------------------------------------------ */
 
 static void nulls(void)
 {
     static const uint8_t abc[3] = {'a', 'b', 'c'};
-    const AxleTable table = axle_table_store(axle_table_fresh(), 1, name, 1, 1, secret, sizeof secret).table;
+    const AxleTable table = axle_table_store(axle_table_fresh(), 1, name, 1, 1, SUITE, secret, sizeof secret).table;
     const AxleConnection fresh = axle_connection_fresh();
     const AxleSwitches legacy = {0, 1, 1};
     AxleDigested of_nothing = axle_sha256(NULL, 0);
@@ -313,8 +353,8 @@ static void nulls(void)
     IS(axle_write_server_hello(0x0303, name, 32, NULL, 0, 60, 0, 0, NULL, 0, NULL, 0, NULL, 0, to, 42).length == 42);
     IS(axle_write_server_hello(0x0303, name, 32, NULL, 0, 60, 0, 0, NULL, 0, NULL, 0, NULL, 0, NULL, 0).refusal.number
        == AXLE_LENGTH);
-    IS(axle_table_store(table, 1, NULL, 0, 0, NULL, 0).refusal.number == AXLE_AXLE_OR_IDENTIFIER);
-    IS(axle_table_store(table, 1, name, 1, 0, NULL, 0).refusal.number == AXLE_LENGTH);
+    IS(axle_table_store(table, 1, NULL, 0, 0, SUITE, NULL, 0).refusal.number == AXLE_AXLE_OR_IDENTIFIER);
+    IS(axle_table_store(table, 1, name, 1, 0, SUITE, NULL, 0).refusal.number == AXLE_LENGTH);
     IS(axle_table_look_up(table, 1, NULL, 0, NULL, 0).refusal.number == AXLE_AXLE_OR_IDENTIFIER);
     IS(axle_table_look_up(table, 2, name, 1, NULL, 0).refusal.number == AXLE_DONE);
     IS(axle_table_look_up(table, 1, name, 1, NULL, 0).refusal.number == AXLE_LENGTH);
@@ -322,9 +362,9 @@ static void nulls(void)
     IS(axle_decide_server(NULL, 0, 1, table, fresh, legacy, NULL, 0).refusal.number == AXLE_MALFORMED);
     n = hello(to, CLIENT_HELLO, out, 0);
     IS(axle_decide_server(to, n, 1, table, fresh, legacy, NULL, 0).refusal.number == AXLE_DONE);
-    IS(axle_decide_client(NULL, 0, NULL, 0, 0, NULL, 0, 0, fresh, legacy).refusal.number == AXLE_MALFORMED);
+    IS(axle_decide_client(NULL, 0, NULL, 0, 0, NULL, 0, 0, 0, fresh, legacy).refusal.number == AXLE_MALFORMED);
     n = hello(to, SERVER_HELLO, out, 0);
-    IS(axle_decide_client(to, n, NULL, 0, 0, NULL, 0, 0, fresh, legacy).refusal.number == AXLE_DONE);
+    IS(axle_decide_client(to, n, NULL, 0, 0, NULL, 0, 0, 0, fresh, legacy).refusal.number == AXLE_DONE);
     IS(axle_log_accept(axle_log_fresh(), NULL, 0, 0).refusal.number == AXLE_MALFORMED);
     IS(axle_log_finish(axle_log_fresh(), NULL, 0, NULL, 0).refusal.number == AXLE_LENGTH);
     IS(axle_log_finish(axle_log_fresh(), secret, sizeof secret, NULL, 0).refusal.number == AXLE_MALFORMED);
@@ -349,13 +389,14 @@ static void table_in_place(void)
     AxleTable table = axle_table_fresh();
     uint8_t found[AXLE_SECRET_SIZE] = {0}, withdrawn = 7;
     AxleLooked looked;
-    IS(axle_table_store_in(&table, 4, name, sizeof name, 1, secret, sizeof secret).number == AXLE_DONE);
-    IS(axle_table_store_in(&table, 4, name, 1, 0, found, sizeof found).number == AXLE_DONE);
+    IS(axle_table_store_in(&table, 4, name, sizeof name, 1, 0x1234, secret, sizeof secret).number == AXLE_DONE);
+    IS(axle_table_store_in(&table, 4, name, 1, 0, SUITE, found, sizeof found).number == AXLE_DONE);
     IS(axle_table_held(table, 4).count == 2);
     looked = axle_table_look_up(table, 4, name, sizeof name, found, sizeof found);
-    IS(looked.refusal.number == AXLE_DONE && looked.found && looked.ems && same(found, secret, sizeof secret));
-    IS(axle_table_store_in(&table, 7, name, 1, 0, secret, sizeof secret).number == AXLE_AXLE_OR_IDENTIFIER);
-    IS(axle_table_store_in(&table, 4, name, 2, 0, secret, 47).number == AXLE_LENGTH);
+    IS(looked.refusal.number == AXLE_DONE && looked.found && looked.ems && looked.suite == 0x1234 && same(found, secret, sizeof secret));
+    IS(axle_table_look_up(table, 4, name, 1, found, sizeof found).suite == SUITE);
+    IS(axle_table_store_in(&table, 7, name, 1, 0, SUITE, secret, sizeof secret).number == AXLE_AXLE_OR_IDENTIFIER);
+    IS(axle_table_store_in(&table, 4, name, 2, 0, SUITE, secret, 47).number == AXLE_LENGTH);
     IS(axle_table_held(table, 4).count == 2);
 
     IS(axle_table_withdraw_in(&table, 7, name, 1, &withdrawn).number == AXLE_AXLE_OR_IDENTIFIER && withdrawn == 0);
@@ -367,8 +408,8 @@ static void table_in_place(void)
     IS(axle_table_withdraw_in(&table, 4, name, sizeof name, NULL).number == AXLE_DONE);
     IS(axle_table_held(table, 4).count == 0);
 
-    axle_table_store_in(&table, 1, name, 1, 0, secret, sizeof secret);
-    axle_table_store_in(&table, 6, name, 1, 0, secret, sizeof secret);
+    axle_table_store_in(&table, 1, name, 1, 0, SUITE, secret, sizeof secret);
+    axle_table_store_in(&table, 6, name, 1, 0, SUITE, secret, sizeof secret);
     IS(axle_table_held(table, 1).count == 1 && axle_table_held(table, 6).count == 1);
     IS(axle_table_clear_in(&table).number == AXLE_DONE);
     IS(axle_table_held(table, 1).count == 0 && axle_table_held(table, 6).count == 0);
@@ -383,14 +424,14 @@ static void given_up(void)
     memset(first, 255, sizeof first);
     IS(same(&fresh, zeros, sizeof fresh));
     for (i = 0; i < 9; i++) { /* the first one goes when the ninth comes */
-        axle_table_store_in(&table, 2, &i, 1, 1, i == 0 ? first : secret, sizeof secret);
+        axle_table_store_in(&table, 2, &i, 1, 1, i == 0 ? 0xffff : SUITE, i == 0 ? first : secret, sizeof secret);
         if (i > 0)
-            axle_table_store_in(&other, 2, &i, 1, 1, secret, sizeof secret);
+            axle_table_store_in(&other, 2, &i, 1, 1, SUITE, secret, sizeof secret);
     }
     IS(same(&table, &other, sizeof table));
     i = 8;
-    axle_table_store_in(&table, 2, &i, 1, 0, first, sizeof first);
-    axle_table_store_in(&table, 2, &i, 1, 1, secret, sizeof secret);
+    axle_table_store_in(&table, 2, &i, 1, 0, 0xffff, first, sizeof first);
+    axle_table_store_in(&table, 2, &i, 1, 1, SUITE, secret, sizeof secret);
     IS(same(&table, &other, sizeof table));
     i = 4;
     passed = table;
@@ -473,6 +514,7 @@ int main(void)
     parts();
     places();
     writing();
+    suites();
     nulls();
     hash_in_place();
     table_in_place();

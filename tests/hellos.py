@@ -65,7 +65,7 @@ def some(r: random.Random, make=None):
     if make is client_hello:
         suites = [r.choice((b"\x00\x2f", b"\x00\xff", b"\xff\x00", r.randbytes(2))) for _ in range(r.randrange(1, 9))]
         return make(suites=b"".join(suites), methods=r.choice((b"\x00", b"\x01\x00", r.randbytes(255))), **fields)
-    return make(suite=r.choice((b"\x00\x2f", b"\x00\xff")), method=r.randbytes(1), **fields)
+    return make(suite=r.choice((b"\x00\x2f", b"\x2f\x00", b"\x00\xff", r.randbytes(2))), method=r.randbytes(1), **fields)
 
 
 def damaged(r: random.Random, whole):

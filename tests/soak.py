@@ -25,7 +25,7 @@ LENT_AT_ONCE = max(sum(isinstance(kind, tuple) for kind in kinds) for _, kinds i
 ROOM = -(-LONGEST // PAGE) * PAGE
 LIBC = c.CDLL(None, use_errno=True)
 LIBC.mprotect.argtypes = [c.c_void_p, c.c_size_t, c.c_int]
-TABLE_NUMBERS = range(12)
+TABLE_NUMBERS = range(13)
 # which of its lent slices is the message that the place of a 1 or 2 counts in; other calls answer place 0 alone
 MESSAGES = {
     "axle_read_client_hello": 0,
@@ -91,12 +91,17 @@ def some_number(r, kind):
 
 
 def drawn(r, name):
-    """Arguments that go together: for a writer the fields of a hello, one of them spoilt at times; for the client's decision our
-    server's hello and the session that it names; for a Finished the value that the log expects, or nearly so. None is left to chance,
-    and so is what is not there."""
+    """Arguments that go together: for a writer the fields of a hello, one of them spoilt at times; for a decision the hello and the
+    session that it names, at times of another suite; for a Finished the value that the log expects, or nearly so. None is left to
+    chance, and so is what is not there."""
+    suite = r.choice((0x002F, 0x002F, 0x2F00))
+    if name == "axle_decide_server" and r.random() < 0.3:
+        named, axle, ems = r.randbytes(r.randrange(1, 33)), r.randrange(1, 7), r.randrange(2)
+        table = face.table_store(values.some(r, face.Table), axle, named, ems, suite, r.randbytes(48)).table
+        return [hellos.client_hello(named, extensions=r.choice((None, hellos.ri() + hellos.ems()))), axle, table]
     if name == "axle_decide_client" and r.random() < 0.3:
         named = r.randbytes(r.randrange(33))
-        return [hellos.server_hello(named, extensions=hellos.ri() + hellos.ems()), named, 1, named, 1]
+        return [hellos.server_hello(named, extensions=hellos.ri() + hellos.ems()), named, 1, named, 1, suite]
     if name == "axle_log_finish" and r.random() < 0.3:
         log, secret = values.some(r, face.Log), r.randbytes(48)
         value = bytes(face.log_expected_finished(log, secret).value)

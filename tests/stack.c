@@ -8,7 +8,7 @@
 #include <stdlib.h>
 #include <string.h>
 
-enum { CALLS = 64, CLIENT_HELLO = 1, SERVER_HELLO = 2, FINISHED = 20 };
+enum { CALLS = 64, CLIENT_HELLO = 1, SERVER_HELLO = 2, FINISHED = 20, SUITE = 60, OTHER = 61 };
 
 static struct {
     const char *name;
@@ -119,7 +119,7 @@ static void secrets(void)
     TRY(axle_master_secret, bytes, 48, bytes, 64, out, 47);
 }
 
-/* What stands behind the identifier of a hello, and what reading it answers. */
+/* What stands behind the identifier of a hello, with SUITE in it and not OTHER, and what reading it answers. */
 typedef struct {
     uint8_t length, number;
     uint8_t bytes[48];
@@ -269,7 +269,7 @@ static AxleTable filled(size_t n, size_t axles)
     AxleTable table = axle_table_fresh();
     for (size_t i = 0; i < n; i++) {
         uint8_t name[2] = {(uint8_t)(i / axles), 7};
-        table = axle_table_store(table, (uint8_t)(1 + i % axles), name, 2, 1, bytes, 48).table;
+        table = axle_table_store(table, (uint8_t)(1 + i % axles), name, 2, 1, SUITE, bytes, 48).table;
     }
     return table;
 }
@@ -278,10 +278,10 @@ static void asked_of(AxleTable table)
 {
     static const uint8_t held[2] = {0, 7}, youngest[2] = {7, 7}, none[2] = {99, 7};
     for (uint8_t axle = 0; axle < 8; axle++) {
-        TRY(axle_table_store, table, axle, held, 2, 1, bytes, 48);
-        TRY(axle_table_store, table, axle, youngest, 2, 1, bytes, 48);
-        TRY(axle_table_store, table, axle, none, 2, 0, bytes, 48);
-        TRY(axle_table_store, table, axle, none, 2, 0, bytes, 47);
+        TRY(axle_table_store, table, axle, held, 2, 1, SUITE, bytes, 48);
+        TRY(axle_table_store, table, axle, youngest, 2, 1, SUITE, bytes, 48);
+        TRY(axle_table_store, table, axle, none, 2, 0, SUITE, bytes, 48);
+        TRY(axle_table_store, table, axle, none, 2, 0, SUITE, bytes, 47);
         TRY(axle_table_look_up, table, axle, held, 2, out, sizeof out);
         TRY(axle_table_look_up, table, axle, youngest, 2, out, sizeof out);
         TRY(axle_table_look_up, table, axle, held, 2, out, 47);
@@ -310,15 +310,26 @@ static void tables(void)
     }
 }
 
+/* With a session whose suite the hellos list and name, and with one whose suite they do not: none for the server, 12 for the client. */
 static void decisions(void)
 {
     uint8_t read[300];
     TRY(axle_connection_fresh);
-    for (int bits = 0; bits < 128; bits++) {
+    for (int bits = 0; bits < 256; bits++) {
         AxleSwitches switches = {bits & 1, bits >> 1 & 1, bits >> 2 & 1};
         AxleConnection connection = {.completed = bits >> 3 & 1, .indication = bits >> 4 & 1};
-        uint8_t ems = bits >> 5 & 1, offered = bits >> 6 ? 32 : 0;
-        AxleTable table = axle_table_store(axle_table_fresh(), 1, identifier, 32, ems, bytes, 48).table;
+        uint8_t ems = bits >> 5 & 1, offered = bits >> 6 & 1 ? 32 : 0;
+        uint16_t suite = bits >> 7 ? OTHER : SUITE;
+        AxleTable table = axle_table_store(axle_table_fresh(), 1, identifier, 32, ems, suite, bytes, 48).table;
+        if (ems && offered && !connection.completed) {
+            size_t n = hello(read, CLIENT_HELLO, offered, client_tails[2]);
+            must(axle_decide_server(read, n, 1, table, connection, switches, out, sizeof out).resumes == (suite == SUITE),
+                 "a session on offer");
+            n = hello(read, SERVER_HELLO, offered, server_tails[2]);
+            must(axle_decide_client(read, n, identifier, 32, 1, identifier, 32, ems, suite, connection, switches).refusal.number
+                     == (suite == SUITE ? AXLE_DONE : AXLE_SUITE),
+                 "a suite named");
+        }
         for (size_t i = 0; i < CLIENT_TAILS; i++) {
             size_t n = hello(read, CLIENT_HELLO, offered, client_tails[i]);
             TRY(axle_decide_server, read, n, 1, table, connection, switches, out, sizeof out);
@@ -327,9 +338,9 @@ static void decisions(void)
         }
         for (size_t i = 0; i < SERVER_TAILS; i++) {
             size_t n = hello(read, SERVER_HELLO, offered, server_tails[i]);
-            TRY(axle_decide_client, read, n, identifier, 32, 1, identifier, 32, ems, connection, switches);
-            TRY(axle_decide_client, read, n, identifier, 0, 0, identifier, 0, ems, connection, switches);
-            TRY(axle_decide_client, read, n, identifier, 32, 0, identifier, 0, ems, connection, switches);
+            TRY(axle_decide_client, read, n, identifier, 32, 1, identifier, 32, ems, suite, connection, switches);
+            TRY(axle_decide_client, read, n, identifier, 0, 0, identifier, 0, ems, suite, connection, switches);
+            TRY(axle_decide_client, read, n, identifier, 32, 0, identifier, 0, ems, suite, connection, switches);
         }
     }
 }

@@ -51,7 +51,7 @@ def test_examples():
         "full handshake, 11 bytes of reply",
         f"{completed}, Table {{ held: [0, 0, 1, 0, 0, 0], .. }}",
         "resumed handshake, 11 bytes of reply",
-        f"{completed}, Session {{ ems: true, secret: Secret(..) }}",
+        f"{completed}, Session {{ ems: true, suite: 59, secret: Secret(..) }}",
     ]
     program, data = BUILT / "debug/examples/sha256", bytes(range(256)) * 100
     with tempfile.NamedTemporaryFile() as file:
@@ -175,7 +175,7 @@ def test_the_c_face_is_the_header_s():
     assert {f"TYPE_{name}": int(n, 0) for name, n in types} == {name: n for name, n in NUMBERS.items() if name.startswith("TYPE_")}
     refusals = re.findall(r"Refusal::(\w+)(?: \{ \.\. \})? => (\d+),", (CRATE / "src/refusal.rs").read_text())
     shouted = [(re.sub(r"(?<!^)(?=[A-Z])", "_", name).upper(), int(n)) for name, n in refusals]
-    assert shouted == [(name, NUMBERS[name]) for name, _ in shouted] and [n for _, n in shouted] == list(range(1, 12))
+    assert shouted == [(name, NUMBERS[name]) for name, _ in shouted] and [n for _, n in shouted] == list(range(1, 13))
     return f"{len(structs)} structs, {len(calls)} calls, {len(consts)} sizes, {len(shouted)} refusals"
 
 

@@ -12,7 +12,7 @@ from oracle.hello import EMS, RI
 from oracle.log import complete
 from tests import face, hellos, test_writing
 from tests.handshakes import full_and_resumed
-from tests.test_decision import client_agrees, server_agrees
+from tests.test_decision import client_agrees, server_agrees, two_bytes
 from tests.test_log import Pair, copied
 
 
@@ -103,6 +103,7 @@ def test_flags_of_any_value():
 # ---- Our own hellos, by the writers
 
 AXLE, REPLY_MAX = 3, 35
+SUITES = (0x003B, 0x3B00, 0xC027, 0x009C)  # of which a handshake takes one
 
 
 class Sides:
@@ -124,13 +125,22 @@ class Sides:
         """Our client's hello; without EMS, or with neither, an older client's."""
         saved = self.client.client if self.client.completed else b""
         lists = hellos.listed([(RI, hellos.vector(1, saved))] * indicates + [(EMS, b"")] * ems)
+        lists["suites"] = two_bytes(*self.r.sample(SUITES, k=4))
         return self.written(hellos.Client(random=self.r.randbytes(32), identifier=offered, block=int(indicates or ems), **lists))
 
-    def answer(self, named, reply):
+    def suite(self, resumed):
+        """The suite of our server's hello: that of the session it resumes, as a look-up hands it out; else one of its own choice."""
+        if not resumed:
+            return self.r.choice(SUITES)
+        looked = face.table_look_up(self.table, AXLE, resumed, face.lend(bytes(48)))
+        assert looked.found
+        return looked.suite
+
+    def answer(self, named, suite, reply):
         """Our server's hello: the reply is taken apart, and stands behind the method again."""
         extensions, end = test_writing.handed_out(reply, 2)
         assert end == max(2, len(reply))
-        lists = hellos.listed(extensions)
+        lists = dict(hellos.listed(extensions), suite=suite)
         message = self.written(hellos.Server(random=self.r.randbytes(32), identifier=named, block=int(bool(reply)), **lists))
         assert message[4 + 2 + 32 + 1 + len(named) + 2 + 1 :] == reply
         return message
@@ -145,14 +155,16 @@ class Sides:
         return bytes(lent)
 
     def handshake(self, session, indicates, ems, switches):
-        """session: None, or what the client offers: (identifier, EMS, secret). Both numbers, and the session made or offered."""
-        offered, known = (session[0], session[:2]) if session else (b"", None)
+        """session: None, or what the client offers: (identifier, EMS, suite, secret). Both numbers, and the session made or offered."""
+        offered, known = (session[0], session[:3]) if session else (b"", None)
         hello = self.hello(offered, indicates, ems)
         decided, reply = server_agrees(hello, AXLE, self.table, self.book, self.server, switches, self.r.randbytes(REPLY_MAX))
         if decided.number:  # no reply; the client would not take one either
-            return decided.number, client_agrees(self.answer(b"", b""), offered, known, self.client, switches).number, session
-        named = offered if decided.resumes else self.r.randbytes(32)
-        answer = self.answer(named, reply)
+            answer = self.answer(b"", SUITES[0], b"")
+            return decided.number, client_agrees(answer, offered, known, self.client, switches).number, session
+        resumed = offered if decided.resumes else b""
+        named, suite = resumed or self.r.randbytes(32), self.suite(resumed)
+        answer = self.answer(named, suite, reply)
         assert client_agrees(answer, offered, known, self.client, switches) == decided
         between = [] if decided.resumes else [hellos.message(kind, self.r.randbytes(40)) for kind in (11, 14, 16)]
         logs = Pair(), Pair()
@@ -161,12 +173,12 @@ class Sides:
         if not decided.resumes:
             hashes = [log.session_hash() for log in logs]
             assert hashes[0] == hashes[1]
-            session = named, decided.ems, self.secret(hello, answer, hashes[0][1], decided.ems)
+            session = named, decided.ems, suite, self.secret(hello, answer, hashes[0][1], decided.ems)
             assert self.book.store(AXLE, *session) == 0
-            self.table = face.table_store(self.table, AXLE, named, int(decided.ems), session[2]).table
+            self.table = face.table_store(self.table, AXLE, named, int(decided.ems), suite, session[3]).table
         for log in logs:
-            log.take_due(session[2])
-            log.take_due(session[2])
+            log.take_due(session[3])
+            log.take_due(session[3])
         completed = [agree(log, record, decided) for log, record in zip(logs, (self.client, self.server))]
         assert completed[0] == completed[1] and completed[0][0] == 0
         self.client, self.server = (record for _, record in completed)

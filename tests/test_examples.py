@@ -171,11 +171,11 @@ def test_words():
         return subprocess.run([ROOT / "examples/words"], input=text, capture_output=True, text=True)
 
     header = "message type log hello"
-    columns = ["0", "1:3", "2:51", *(str(n) for n in range(3, 12))]
+    columns = ["0", "1:3", "2:51", *(str(n) for n in range(3, 13))]
     rows = [
         f"{i} {kind} {log} {hello}"
         for i, (kind, log, hello) in enumerate(
-            [("-", "1:0", "-"), *((k, columns[k % 12], "-") for k in range(256)), *((1, 0, column) for column in columns)], 1
+            [("-", "1:0", "-"), *((k, columns[k % 13], "-") for k in range(256)), *((1, 0, column) for column in columns)], 1
         )
     ]
     said = words("\n".join([header, *rows]) + "\n")
@@ -187,20 +187,21 @@ def test_words():
         and told[9] == "a type without a name: refused, 7: out of turn"
     )
     ours = "ClientHello: accepted; the server's decision: "
-    assert told[-10] == ours + "refused, 2: extension type twice in a hello, at place 51"
-    assert told[-1] == ours + "refused, 11: axle not 1 to 6, or identifier not 1 to 32 bytes"
+    assert told[-11] == ours + "refused, 2: extension type twice in a hello, at place 51"
+    assert told[-2] == ours + "refused, 11: axle not 1 to 6, or identifier not 1 to 32 bytes"
+    assert told[-1] == ours + "refused, 12: suite of a resuming ServerHello differs from the session's"
     notes_of = {"1 20 0 -": (), "1 2 7 -": (), "1 20 1:1 -": (), "1 20 7 -": ("resumes",), "1 20 8 -": ("48 zero bytes",)}
     for row, notes in notes_of.items():
         _, *told = words(f"{header}\n{row}\n").stdout.split("\n\n")
         assert len(told) == len(notes) and all(note in text for note, text in zip(notes, told)), row
     header_text = (ROOT / "include/axle_gateway.h").read_text()
     numbers = re.findall(r"AXLE_\w+ = (\d+)", header_text[header_text.index("AXLE_DONE = 0") :].split("};")[0])
-    assert numbers == [str(n) for n in range(12)]
+    assert numbers == [str(n) for n in range(13)]
     for text in (
         "",
         "hello\n",
         f"{header}\n1 1 0\n",
-        f"{header}\n1 1 12 -\n",
+        f"{header}\n1 1 13 -\n",
         f"{header}\n1 1 1 -\n",
         f"{header}\n1 1 0 2\n",
         f"{header}\n1 1 0 1:\n",

@@ -5,8 +5,8 @@ from tests.soak import soak
 # what each call is answered in it, at the least: every one gets past its first test
 SEEN = {
     "axle_complete": {0, 7},
-    "axle_decide_client": {0, 1, 11},
-    "axle_decide_server": {0, 1, 5, 9, 11},
+    "axle_decide_client": {0, 1, 11, 12},
+    "axle_decide_server": {0, 1, 5, 6, 9, 11},
     "axle_extended_master_secret": {0, 10},
     "axle_hash_absorb": {0, 10},
     "axle_log_accept": {0, 1, 7, 10},

@@ -15,12 +15,13 @@ from tests.test_decision import server_agrees
 ROOT = pathlib.Path(__file__).resolve().parent.parent
 SECRET = bytes(range(48))
 PATTERN = bytes((i * 29 + 5) % 256 for i in range(80))
-ROW = 82  # bytes of a place
+SUITE = 0x123B
+ROW = 84  # bytes of a place
 
 
 def row_bytes(session):
-    _, identifier, ems, secret = session
-    return bytes([ems, len(identifier)]) + identifier.ljust(32, b"\x00") + secret
+    _, identifier, ems, suite, secret = session
+    return bytes([ems, len(identifier)]) + suite.to_bytes(2, "big") + identifier.ljust(32, b"\x00") + secret
 
 
 def queue_bytes(sessions):
@@ -46,12 +47,12 @@ class OneRow:
         self.row = one_row.after_in(self.row, call)
         return answer
 
-    def store(self, axle, identifier, ems, secret):
-        return self._call("store", (axle, identifier, bool(ems), secret))
+    def store(self, axle, identifier, ems, suite, secret):
+        return self._call("store", (axle, identifier, bool(ems), suite, secret))
 
     def look_up(self, axle, identifier, out):
         number, session, after = self._call("look_up", axle, identifier, out)
-        return number, session is not None, bool(session and session[2]), after
+        return number, session is not None, bool(session and session[2]), session[3] if session else 0, after
 
     def withdraw(self, axle, identifier):
         return self._call("withdraw", axle, identifier)
@@ -94,19 +95,20 @@ class Pair:
         self.table = answer.table
         self.laid_out()
 
-    def store(self, axle, identifier, ems, secret):
-        number = self._agreed(self.book.store(axle, identifier, bool(ems), secret), "store", axle, identifier, ems, secret)
-        answer = face.table_store(self.table, axle, identifier, ems, secret)
+    def store(self, axle, identifier, ems, suite, secret):
+        given = axle, identifier, ems, suite, secret
+        number = self._agreed(self.book.store(axle, identifier, bool(ems), suite, secret), "store", *given)
+        answer = face.table_store(self.table, *given)
         assert answer.refusal.plain() == numbers.refusal(number)
         self._keep(answer, number)
         return number
 
     def look_up(self, axle, identifier, out):
-        number, found, ems, after = self._agreed(self.book.look_up(axle, identifier, out), "look_up", axle, identifier, out)
+        number, found, ems, suite, after = self._agreed(self.book.look_up(axle, identifier, out), "look_up", axle, identifier, out)
         lent = face.lend(out)
         answer = face.table_look_up(self.table, axle, identifier, lent)
         assert answer.refusal.plain() == numbers.refusal(number)
-        assert (answer.found, answer.ems, bytes(lent)) == (found, ems, after)
+        assert (answer.found, answer.ems, answer.suite, bytes(lent)) == (found, ems, suite, after)
         self.laid_out()
         return found
 
@@ -145,20 +147,20 @@ def identifiers():
 def test_cases_of_document_01():
     fresh = identifiers()
     p, first = Pair(), next(fresh)
-    p.store(1, first, 1, SECRET)
+    p.store(1, first, 1, SUITE, SECRET)
     for _ in range(8):
-        p.store(1, next(fresh), 1, SECRET)
+        p.store(1, next(fresh), 1, SUITE, SECRET)
     assert p.held(1) == 8 and not p.look_up(1, first, bytes(48))
     p = Pair()
     for axle in range(1, 5):
         for _ in range(8):
-            p.store(axle, next(fresh), 0, SECRET)
+            p.store(axle, next(fresh), 0, SUITE, SECRET)
     for _ in range(4):
-        p.store(5, next(fresh), 0, SECRET)
+        p.store(5, next(fresh), 0, SUITE, SECRET)
     assert p.all_held() == [7, 7, 7, 7, 4, 0]
-    p.store(5, next(fresh), 0, SECRET)
+    p.store(5, next(fresh), 0, SUITE, SECRET)
     assert p.all_held() == [7, 7, 7, 7, 4, 0]
-    p.store(6, next(fresh), 0, SECRET)
+    p.store(6, next(fresh), 0, SUITE, SECRET)
     assert p.all_held() == [6, 7, 7, 7, 4, 1]
 
 
@@ -167,34 +169,35 @@ def test_one_axle_restarts_without_end():
     fresh, p, latest = identifiers(), Pair(), {}
     for _ in range(4):
         for axle in (1, 2, 3, 5, 6):
-            latest[axle] = next(fresh), bytes([axle]) * 48
-            p.store(axle, latest[axle][0], 1, latest[axle][1])
+            latest[axle] = next(fresh), 0xC000 + axle, bytes([axle]) * 48
+            identifier, suite, secret = latest[axle]
+            p.store(axle, identifier, 1, suite, secret)
     for _ in range(10_000):
-        assert p.store(4, next(fresh), 1, SECRET) == 0
-    for axle, (identifier, secret) in latest.items():
+        assert p.store(4, next(fresh), 1, SUITE, SECRET) == 0
+    for axle, (identifier, suite, secret) in latest.items():
         out = face.lend(bytes(48))
         answer = face.table_look_up(p.table, axle, identifier, out)
-        assert answer.found == 1 and bytes(out) == secret
+        assert (answer.found, answer.ems, answer.suite, bytes(out)) == (1, 1, suite, secret)
 
 
 def test_refusals():
     p = Pair()
-    p.store(1, b"a", 1, SECRET)
+    p.store(1, b"a", 1, SUITE, SECRET)
     for axle in (0, 1, 6, 7, 100, 255):
         for n in (0, 1, 32, 33, 300):
             identifier = b"a" * n
             for k in (0, 47, 48, 49, 96):
-                p.store(axle, identifier, k % 2, PATTERN[:k] if k <= 80 else bytes(k))
+                p.store(axle, identifier, k % 2, SUITE + k, PATTERN[:k] if k <= 80 else bytes(k))
             p.look_up(axle, identifier, PATTERN[:10])
             p.look_up(axle, identifier, PATTERN[:48])
             p.withdraw(axle, identifier)
-            p.store(1, b"a", 1, SECRET)
+            p.store(1, b"a", 1, SUITE, SECRET)
         p.held(axle)
 
 
 def test_output_lengths():
     p = Pair()
-    p.store(2, b"there", 1, SECRET)
+    p.store(2, b"there", 1, SUITE, SECRET)
     for n in range(65):
         for identifier in (b"there", b"not", b"there\x00", b"ther"):
             p.look_up(2, identifier, PATTERN[:n])
@@ -204,7 +207,7 @@ def test_identifiers_are_compared_whole():
     p = Pair()
     names = [b"\x00", b"\x00\x00", b"a", b"a\x00", b"a" * 31, b"a" * 32, b"a" * 31 + b"b"]
     for i, name in enumerate(names):
-        p.store(1 + i % 6, name, i % 2, bytes([i]) * 48)
+        p.store(1 + i % 6, name, i % 2, 256 * i, bytes([i]) * 48)
         for axle in range(1, 7):
             for other in names:
                 p.look_up(axle, other, bytes(48))
@@ -222,7 +225,8 @@ def some_calls(r, length):
         way = r.random()
         if way < 0.6:
             secret = r.randbytes(48) if r.random() < 0.97 else r.randbytes(r.choice((0, 47, 49)))
-            yield "store", axle, identifier, r.choice((0, 1, 2, 255)), secret
+            suite = r.choice((0, 0x003B, 0x3B00, 0x00FF, 0xFF00, 0xFFFF, r.randrange(65_536), r.randrange(65_536)))
+            yield "store", axle, identifier, r.choice((0, 1, 2, 255)), suite, secret
         elif way < 0.8:
             yield "look_up", axle, identifier, PATTERN[: r.choice((0, 47, 48, 48, 48, 60))]
         elif way < 0.88:
@@ -273,7 +277,7 @@ def test_secrets_given_up_are_gone():
     for _ in range(30):
         p, before = Pair(), set()
         for kind in played(p, r, 400):
-            now, data = {s[3] for s in p.book.row}, bytes(p.table)
+            now, data = {s[4] for s in p.book.row}, bytes(p.table)
             for secret in before - now:
                 assert not any(secret[i : i + 8] in data for i in range(41))
                 gone[kind] += 1
@@ -284,7 +288,8 @@ def test_secrets_given_up_are_gone():
 
 
 def test_a_wrong_layout_is_found():
-    """Two sessions of an axle in the wrong order, one more or fewer counted, a byte left in a place given up."""
+    """Two sessions of an axle in the wrong order, one more or fewer counted, a suite the wrong way round, a byte left in a place given
+    up."""
 
     def swapped(queue):
         queue.rows[0], queue.rows[1] = face.Row.from_buffer_copy(queue.rows[1]), face.Row.from_buffer_copy(queue.rows[0])
@@ -292,13 +297,19 @@ def test_a_wrong_layout_is_found():
     def counted(queue, by):
         queue.held += by
 
+    def turned(queue):
+        queue.rows[2].suite[:] = queue.rows[2].suite[::-1]
+
     def left(queue):
         queue.rows[7].secret[47] = 1
 
-    for wrong in (swapped, lambda queue: counted(queue, 1), lambda queue: counted(queue, -1), left):
+    def suite_left(queue):
+        queue.rows[3].suite[1] = 1
+
+    for wrong in (swapped, lambda queue: counted(queue, 1), lambda queue: counted(queue, -1), turned, left, suite_left):
         p = Pair()
         for identifier in (b"a", b"b", b"c"):
-            p.store(5, identifier, 1, identifier * 48)
+            p.store(5, identifier, 1, SUITE, identifier * 48)
         wrong(p.table.queues[4])
         try:
             p.laid_out()
@@ -316,7 +327,7 @@ def test_what_layouts_refuses():
         (("/none", ours[1]), 2, "usage:"),
         ((*ours, "1", "2"), 2, "usage:"),
         ((*ours, "0"), 2, "LISTS is a number from 1 on"),
-        ((*ours, "1"), 1, "its table has 3,942 bytes; that of the layout before order 3 has 2,664"),
+        ((*ours, "1"), 1, "its table has 4,038 bytes; that of the layout before order 3 has 2,664"),
     ):
         said = subprocess.run([ROOT / "tests/layouts", *words], capture_output=True, text=True)
         assert (said.returncode, said.stdout) == (status, ""), (words, said)
@@ -346,12 +357,13 @@ class Meaning:
 
     def known(self, axle, identifier):
         row = named(self.table, axle, identifier)
-        return None if row is None else row.ems != 0
+        return None if row is None else (row.ems != 0, int.from_bytes(row.suite, "big"))
 
 
 def tried(t, axle, identifier, secret, out):
     """Every call is answered by the places that count, a refusal changes nothing, and what is stored stands last in its queue.
-    What a look-up, a withdrawal and the number held came to, and whether the server would resume."""
+    What a look-up, a withdrawal and the number held came to, and whether the server would resume, which it never would where the
+    suite is not listed."""
     bad = not (1 <= axle <= 6 and 1 <= len(identifier) <= 32)
     row = named(t, axle, identifier)
     lent = face.lend(out)
@@ -360,6 +372,7 @@ def tried(t, axle, identifier, secret, out):
     found = row is not None and number == 0
     assert looked.refusal.plain() == numbers.refusal(number)
     assert (looked.found, looked.ems) == (found, found and row.ems != 0)
+    assert looked.suite == (256 * row.suite[0] + row.suite[1] if found else 0)
     assert bytes(lent) == (bytes(row.secret) + out[48:] if found else out)
 
     withdrawn = face.table_withdraw(t, axle, identifier)
@@ -369,14 +382,14 @@ def tried(t, axle, identifier, secret, out):
     else:
         assert withdrawn.table.queues[axle - 1].held == counts(t, axle) - 1
 
-    stored = face.table_store(t, axle, identifier, 1, secret)
+    stored = face.table_store(t, axle, identifier, 1, SUITE, secret)
     number = 11 if bad else 10 if len(secret) != 48 else 0
     assert stored.refusal.plain() == numbers.refusal(number)
     if number:
         assert bytes(stored.table) == bytes(t)
     else:
         queue = stored.table.queues[axle - 1]
-        assert 1 <= queue.held <= 8 and bytes(queue.rows[queue.held - 1]) == row_bytes((axle, identifier, True, secret))
+        assert 1 <= queue.held <= 8 and bytes(queue.rows[queue.held - 1]) == row_bytes((axle, identifier, True, SUITE, secret))
 
     held, bad_axle = face.table_held(t, axle), not 1 <= axle <= 6
     assert held.refusal.plain() == numbers.refusal(11 if bad_axle else 0)
@@ -384,9 +397,13 @@ def tried(t, axle, identifier, secret, out):
     cleared = face.table_clear(t)
     assert cleared.refusal.plain() == numbers.refusal(0) and bytes(cleared.table) == expected_bytes(Book())
 
-    hello = hellos.client_hello(identifier, extensions=hellos.ri() + hellos.ems())
-    decided, _ = server_agrees(hello, axle, t, Meaning(t), Connection(), Switches(), PATTERN[:35])
-    return (looked.refusal.number, looked.found), withdrawn.withdrawn, held.count, decided.resumes
+    def resumes(suite):
+        hello = hellos.client_hello(identifier, suite, extensions=hellos.ri() + hellos.ems())
+        return server_agrees(hello, axle, t, Meaning(t), Connection(), Switches(), PATTERN[:35])[0].resumes
+
+    high, low = row.suite if row else (0, 0)
+    assert not resumes(bytes([high, low ^ 1]))
+    return (looked.refusal.number, looked.found), withdrawn.withdrawn, held.count, resumes(bytes([high, low]))
 
 
 def test_any_struct_value_ends():
@@ -422,7 +439,7 @@ def test_an_identifier_of_no_bytes():
     nameless = face.Table(tuple(face.Queue((), 8) for _ in range(6)))
     full = Pair()
     for i in range(48):
-        full.store(1 + i % 6, bytes([i]), 1, SECRET)
+        full.store(1 + i % 6, bytes([i]), 1, SUITE, SECRET)
     for t in (face.table_fresh(), full.table, nameless, *(values.some(r, face.Table) for _ in range(200))):
         for axle in range(1, 7):
             looked, withdrawn, _, resumes = tried(t, axle, b"", SECRET, PATTERN[:48])

@@ -18,7 +18,7 @@ def length(r):
 
 # by struct and field
 STEERING = {
-    (face.Refusal, "number"): lambda r: r.choice((0, 0, 0, r.randrange(13))),
+    (face.Refusal, "number"): lambda r: r.choice((0, 0, 0, r.randrange(14))),
     (face.Hash, "length"): length,
     (face.Row, "size"): lambda r: r.randrange(34),
     (face.Queue, "held"): lambda r: r.randrange(10),

@@ -13,6 +13,7 @@ const AXLE: u8 = 3;
 const STRICT: Switches = Switches { indication_required: true, legacy_full: false, legacy_resumption: false };
 const PRE_MASTER: [u8; 48] = [42; 48];
 const IDENTIFIER: &[u8] = b"next";
+const SUITE: u16 = 0x003b;
 
 const CERTIFICATE: u8 = 11;
 const HELLO_DONE: u8 = 14;
@@ -31,7 +32,7 @@ pub fn client_hello(identifier: &[u8]) -> Result<Vec<u8>> {
         version: 0x0303,
         random: &[7; 32],
         identifier,
-        suites: &[0, 0x3b],
+        suites: &SUITE.to_be_bytes(),
         methods: &[0],
         extensions: Some(extensions.lists()),
     };
@@ -39,12 +40,12 @@ pub fn client_hello(identifier: &[u8]) -> Result<Vec<u8>> {
 }
 
 /// Our server's hello, with the reply that was decided: an extension block, or nothing at all.
-pub fn server_hello(identifier: &[u8], reply: &[u8]) -> Result<Vec<u8>> {
+pub fn server_hello(identifier: &[u8], suite: u16, reply: &[u8]) -> Result<Vec<u8>> {
     let list = ExtensionList::<2, 25>::new().with_all(extensions_at(reply, 2))?;
     let fields = ServerHelloFields {
         random: &[9; 32],
         identifier,
-        suite: 0x003b,
+        suite,
         compression: 0,
         extensions: (!reply.is_empty()).then(|| list.lists()),
     };
@@ -59,7 +60,12 @@ fn hellos(log: &mut Log, table: &Table, offer: Option<Offer<'_>>) -> Result<Deci
     let mut room = [0; REPLY_MAX];
     let (server, reply) = decide_server(&hello, AXLE, table, &fresh, STRICT, &mut room)?;
     log.accept(&hello, false)?;
-    let answer = server_hello(if server.resumes() { offered } else { IDENTIFIER }, reply)?;
+    let answer = if server.resumes() {
+        let session = table.look_up(AXLE, offered)?.expect("it resumes");
+        server_hello(offered, session.suite, reply)?
+    } else {
+        server_hello(IDENTIFIER, SUITE, reply)?
+    };
     let client = decide_client(&answer, offer, &fresh, STRICT)?;
     assert_eq!(
         (client.resumes(), client.ems(), client.indication()),
@@ -92,11 +98,11 @@ pub fn main() -> Result<()> {
     finish(&mut log, &secret)?;
     let mut connection = Connection::new();
     connection.complete(&log, &decision)?;
-    table.store(AXLE, IDENTIFIER, decision.ems(), &secret)?;
+    table.store(AXLE, IDENTIFIER, decision.ems(), SUITE, &secret)?;
     println!("{connection:?}, {table:?}");
 
     let mut log = Log::new();
-    let decision = hellos(&mut log, &table, Some(Offer { identifier: IDENTIFIER, ems: true }))?;
+    let decision = hellos(&mut log, &table, Some(Offer { identifier: IDENTIFIER, ems: true, suite: SUITE }))?;
     let session = table.look_up(AXLE, IDENTIFIER)?.expect("it was stored");
     finish(&mut log, &session.secret)?;
     let mut connection = Connection::new();

@@ -34,6 +34,8 @@ pub struct Offer<'a> {
     pub identifier: &'a [u8],
     /// Its secret was made with extended_master_secret.
     pub ems: bool,
+    /// The cipher suite that it was made with.
+    pub suite: u16,
 }
 
 impl Default for Connection {
@@ -168,6 +170,9 @@ impl fmt::Debug for Decision {
 /// [`Length`](crate::Refusal::Length) where `out` is shorter than the reply, which has at most
 /// [`REPLY_MAX`](crate::REPLY_MAX) bytes.
 ///
+/// A session whose suite the hello does not list counts as none, and stays in the table. Where the decision
+/// [resumes](Decision::resumes), our ServerHello must name the suite of the session, as [`look_up`](Table::look_up) answers it.
+///
 /// It costs what [reading](crate::read_client_hello) the hello costs: bound the length that an axle may send before it is known.
 pub fn decide_server<'a>(
     message: &[u8],
@@ -195,8 +200,9 @@ pub fn decide_server<'a>(
 
 /// The client's decision on a ServerHello that answers our own hello, which offered that session or none. Refused for an offer
 /// over 32 bytes (an empty one is none); then for the hello, as reading it is, with the same place, or an extension that we never
-/// offer; for renegotiation ([`OutOfTurn`](crate::Refusal::OutOfTurn) or [`Indication`](crate::Refusal::Indication)); and by the
-/// [`MasterSecretRule`](crate::Refusal::MasterSecretRule).
+/// offer; for renegotiation ([`OutOfTurn`](crate::Refusal::OutOfTurn) or [`Indication`](crate::Refusal::Indication)); as
+/// [`Suite`](crate::Refusal::Suite) where it resumes with another suite than the session's; and by the
+/// [`MasterSecretRule`](crate::Refusal::MasterSecretRule). In a ServerHello that does not resume the suite is not judged.
 pub fn decide_client(
     message: &[u8],
     offer: Option<Offer<'_>>,
@@ -215,6 +221,7 @@ pub fn decide_client(
             identifier.as_ptr(),
             identifier.len(),
             offer.is_some_and(|o| o.ems).into(),
+            offer.map_or(0, |o| o.suite),
             *connection.0,
             switches.into(),
         )

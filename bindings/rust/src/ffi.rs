@@ -122,6 +122,7 @@ pub struct Written {
 pub struct Row {
     pub ems: u8,
     pub size: u8,
+    pub suite: [u8; 2],
     pub identifier: [u8; 32],
     pub secret: [u8; 48],
 }
@@ -152,6 +153,7 @@ pub struct Looked {
     pub refusal: Refusal,
     pub found: u8,
     pub ems: u8,
+    pub suite: u16,
 }
 
 #[repr(C)]
@@ -323,6 +325,7 @@ extern "C" {
         identifier: *const u8,
         identifier_length: usize,
         ems: u8,
+        suite: u16,
         secret: *const u8,
         secret_length: usize,
     ) -> Stored;
@@ -358,6 +361,7 @@ extern "C" {
         identifier: *const u8,
         identifier_length: usize,
         ems: u8,
+        suite: u16,
         connection: Connection,
         switches: Switches,
     ) -> Decision;

@@ -14,10 +14,10 @@
 //!
 //! let secret = extended_master_secret(&[3; 48], &[7; 32])?;
 //! let mut table = Table::new();
-//! table.store(4, b"session", true, &secret)?;
+//! table.store(4, b"session", true, 0x003b, &secret)?;
 //! let session = table.look_up(4, b"session")?.expect("it was stored");
-//! assert_eq!(session.secret.as_bytes(), secret.as_bytes());
-//! assert_eq!(table.store(7, b"session", true, &secret), Err(Refusal::AxleOrIdentifier));
+//! assert_eq!((session.suite, session.secret.as_bytes()), (0x003b, secret.as_bytes()));
+//! assert_eq!(table.store(7, b"session", true, 0x003b, &secret), Err(Refusal::AxleOrIdentifier));
 //! # Ok::<(), Refusal>(())
 //! ```
 

@@ -61,6 +61,8 @@ pub enum Refusal {
     Length,
     /// An axle not 1 to 6, or an identifier not of 1 to 32 bytes; nothing went wrong on the wire.
     AxleOrIdentifier,
+    /// A ServerHello resumes with another suite than the session's.
+    Suite,
 }
 
 /// What a call answers that can be refused.
@@ -68,7 +70,7 @@ pub type Result<T> = core::result::Result<T, Refusal>;
 
 impl Refusal {
     /// Every refusal, by number, and without a place.
-    pub const ALL: [Refusal; 11] = [
+    pub const ALL: [Refusal; 12] = [
         Refusal::Malformed { place: None },
         Refusal::ExtensionTwice { place: None },
         Refusal::Version,
@@ -80,9 +82,10 @@ impl Refusal {
         Refusal::RenegotiationClosed,
         Refusal::Length,
         Refusal::AxleOrIdentifier,
+        Refusal::Suite,
     ];
 
-    /// Its number, 1 to 11.
+    /// Its number, 1 to 12.
     #[must_use]
     pub const fn number(self) -> u8 {
         match self {
@@ -97,10 +100,11 @@ impl Refusal {
             Refusal::RenegotiationClosed => 9,
             Refusal::Length => 10,
             Refusal::AxleOrIdentifier => 11,
+            Refusal::Suite => 12,
         }
     }
 
-    /// The refusal of that number, without a place: none for 0, which is done, and above 11.
+    /// The refusal of that number, without a place: none for 0, which is done, and above 12.
     #[must_use]
     pub fn of(number: u8) -> Option<Refusal> {
         Refusal::ALL.into_iter().find(|refusal| refusal.number() == number)
@@ -152,6 +156,7 @@ impl Refusal {
             Refusal::RenegotiationClosed => "renegotiation closed",
             Refusal::Length => "a length outside its bounds",
             Refusal::AxleOrIdentifier => "axle or identifier outside its bounds",
+            Refusal::Suite => "suite differs from the session's",
         }
     }
 }

@@ -11,6 +11,8 @@ use core::fmt;
 pub struct Session {
     /// Its secret was made with extended_master_secret.
     pub ems: bool,
+    /// The cipher suite that it was made with. A ServerHello that resumes it names this one.
+    pub suite: u16,
     /// The master secret.
     pub secret: Secret,
 }
@@ -42,9 +44,9 @@ impl Table {
         Table(Wiped(unsafe { ffi::axle_table_fresh() }))
     }
 
-    /// Stores a session; where there is no room, another one goes. Refused as
+    /// Stores a session, with the cipher suite that it was made with; where there is no room, another one goes. Refused as
     /// [`AxleOrIdentifier`](crate::Refusal::AxleOrIdentifier) for an axle not 1 to 6 or an identifier not of 1 to 32 bytes.
-    pub fn store(&mut self, axle: u8, identifier: &[u8], ems: bool, secret: &Secret) -> Result<()> {
+    pub fn store(&mut self, axle: u8, identifier: &[u8], ems: bool, suite: u16, secret: &Secret) -> Result<()> {
         // SAFETY: the slices are good for their lengths and only read.
         let answer = Wiped(unsafe {
             ffi::axle_table_store(
@@ -53,6 +55,7 @@ impl Table {
                 identifier.as_ptr(),
                 identifier.len(),
                 ems.into(),
+                suite,
                 secret.as_bytes().as_ptr(),
                 SECRET_SIZE,
             )
@@ -75,7 +78,8 @@ impl Table {
                 SECRET_SIZE,
             )
         };
-        done(answer.refusal, (answer.found != 0).then_some(Session { ems: answer.ems != 0, secret }))
+        let session = Session { ems: answer.ems != 0, suite: answer.suite, secret };
+        done(answer.refusal, (answer.found != 0).then_some(session))
     }
 
     /// Takes a session out; was it there? Refused as [`store`](Table::store) is.

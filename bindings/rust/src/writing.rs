@@ -57,7 +57,7 @@ pub struct ServerHelloFields<'a> {
     pub random: &'a [u8],
     /// The session identifier, 0 to 32 bytes.
     pub identifier: &'a [u8],
-    /// The suite chosen.
+    /// The suite chosen: the session's, where the ServerHello resumes.
     pub suite: u16,
     /// The compression method chosen.
     pub compression: u8,

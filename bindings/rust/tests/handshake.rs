@@ -10,8 +10,11 @@ fn client_hello(identifier: &[u8]) -> Vec<u8> {
 }
 
 fn server_hello(identifier: &[u8], reply: &[u8]) -> Vec<u8> {
-    example::server_hello(identifier, reply).unwrap()
+    example::server_hello(identifier, SUITE, reply).unwrap()
 }
+
+/// The suite that our client's hello lists.
+const SUITE: u16 = 0x003b;
 
 const LEGACY: Switches = Switches { indication_required: false, legacy_full: true, legacy_resumption: true };
 
@@ -42,7 +45,7 @@ fn every_field_of_a_decision() {
     assert_eq!(fields(&extended), [false, true, true, false, false, false, true]);
     let legacy = decide(&bare(client_hello(b"id"), 11), &table, &mut room).unwrap();
     assert_eq!(fields(&legacy), [false, false, false, false, true, false, false]);
-    table.store(1, b"id", false, &Secret::from([1; 48])).unwrap();
+    table.store(1, b"id", false, SUITE, &Secret::from([1; 48])).unwrap();
     let resumed = decide(&bare(client_hello(b"id"), 11), &table, &mut room).unwrap();
     assert_eq!(fields(&resumed), [true, false, false, true, true, true, false]);
     assert_eq!(
@@ -51,9 +54,29 @@ fn every_field_of_a_decision() {
          reply_length: 0 }"
     );
     assert_eq!(decide(&client_hello(b"id"), &table, &mut room[..6]).unwrap_err(), Refusal::Length);
-    let offer = Offer { identifier: &[0; 33], ems: true };
+    let offer = Offer { identifier: &[0; 33], ems: true, suite: SUITE };
     let refused = decide_client(&server_hello(b"", b""), Some(offer), &fresh, LEGACY).unwrap_err();
     assert_eq!(refused, Refusal::AxleOrIdentifier);
+}
+
+/// A session whose suite is not on offer counts as none, and stays; a ServerHello that resumes it must name its suite.
+#[test]
+fn the_suite_of_a_session() {
+    let (fresh, strict, reply) = (Connection::new(), Switches::default(), [0, 9, 0xff, 1, 0, 1, 0, 0, 23, 0, 0]);
+    for suite in [SUITE, SUITE + 1, SUITE.swap_bytes(), 0, 0xffff] {
+        let mut table = Table::new();
+        table.store(2, b"id", true, suite, &Secret::from([1; 48])).unwrap();
+        let mut room = [0; REPLY_MAX];
+        let (decision, written) = decide_server(&client_hello(b"id"), 2, &table, &fresh, strict, &mut room).unwrap();
+        assert_eq!((decision.resumes(), written), (suite == SUITE, &reply[..]));
+        assert_eq!(table.look_up(2, b"id").unwrap().map(|session| session.suite), Some(suite));
+
+        let offer = Some(Offer { identifier: b"id", ems: true, suite });
+        let decide = |identifier, offer| decide_client(&server_hello(identifier, &reply), offer, &fresh, strict);
+        let resumed = decide(b"id", offer).map(|decision| decision.resumes());
+        assert_eq!(resumed, if suite == SUITE { Ok(true) } else { Err(Refusal::Suite) });
+        assert!(!decide(b"other", offer).unwrap().resumes() && !decide(b"id", None).unwrap().resumes());
+    }
 }
 
 #[test]

@@ -11,7 +11,7 @@ fn numbers() {
     assert!((0..=255).filter_map(Refusal::of).eq(Refusal::ALL));
 }
 
-/// Document 01's column of alerts.
+/// Document 01's column of alerts, and order 2's 12.
 #[test]
 fn alerts() {
     let codes = [50, 47, 70, 110, 40, 40, 10, 51, 100];
@@ -20,6 +20,7 @@ fn alerts() {
         assert_eq!(refusal.alert(), Some(Alert { level, code }));
     }
     assert_eq!([Refusal::Length.alert(), Refusal::AxleOrIdentifier.alert()], [None, None]);
+    assert_eq!(Refusal::Suite.alert(), Some(Alert { level: Level::Fatal, code: 47 }));
     assert_eq!(Refusal::Malformed { place: Some(17) }.alert().unwrap().to_bytes(), [2, 50]);
     assert_eq!(Refusal::RenegotiationClosed.alert().unwrap().to_bytes(), [1, 100]);
 }
@@ -74,6 +75,7 @@ fn places() {
 fn words() {
     let error: Box<dyn Error> = Box::new(Refusal::Version);
     assert_eq!(error.to_string(), "refused with 3: version");
+    assert_eq!(Refusal::Suite.to_string(), "refused with 12: suite differs from the session's");
     assert_eq!(format!("{:?}", Refusal::OutOfTurn), "OutOfTurn");
     let refused = read_client_hello(&hello(&[0])).unwrap_err();
     assert_eq!(refused.to_string(), "refused with 1: malformed message, at place 48");

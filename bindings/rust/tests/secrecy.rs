@@ -7,6 +7,8 @@ use std::mem::{size_of, MaybeUninit};
 /// Unlike any number that `Debug` would print for another reason.
 const MARK: u8 = 199;
 const SECRET: [u8; 48] = [MARK; 48];
+/// A suite, of two such bytes.
+const MARKS: u16 = u16::from_be_bytes([MARK; 2]);
 
 /// The bytes that a value leaves behind when it is dropped where it stands.
 fn left_by<T>(value: T) -> Vec<u8> {
@@ -20,7 +22,7 @@ fn left_by<T>(value: T) -> Vec<u8> {
 
 fn marked_table() -> Table {
     let mut table = Table::new();
-    table.store(1, &[MARK; 32], true, &Secret::from(SECRET)).unwrap();
+    table.store(1, &[MARK; 32], true, MARKS, &Secret::from(SECRET)).unwrap();
     table
 }
 
@@ -54,7 +56,8 @@ fn dropped_values_are_zeros() {
     assert!(zeros(left_by(marked_log())));
     assert!(zeros(left_by(Connection::new())));
     let session = marked_table().look_up(1, &[MARK; 32]).unwrap().unwrap();
-    assert!(session.secret.as_bytes() == &SECRET && left_by(session).iter().all(|byte| *byte != MARK));
+    assert!(session.secret.as_bytes() == &SECRET && session.suite == MARKS);
+    assert_eq!(left_by(session).iter().filter(|byte| **byte == MARK).count(), 2, "the suite is no secret, and stays");
     assert!(left_by(marked_list()).iter().all(|byte| *byte != MARK));
 }
 
@@ -68,23 +71,23 @@ fn bytes_of(table: &Table) -> &[u8] {
 fn sessions_given_up_are_gone() {
     let marks = |table: &Table| bytes_of(table).iter().filter(|byte| **byte == MARK).count();
     let (marked, other) = (Secret::from(SECRET), Secret::from([1; 48]));
-    assert_eq!(size_of::<Table>(), 3942);
+    assert_eq!(size_of::<Table>(), 4038);
 
     let mut replaced = marked_table();
-    assert_eq!(marks(&replaced), 32 + 48);
-    replaced.store(1, &[MARK; 32], true, &other).unwrap();
+    assert_eq!(marks(&replaced), 2 + 32 + 48);
+    replaced.store(1, &[MARK; 32], true, 0, &other).unwrap();
     assert_eq!(marks(&replaced), 32);
 
     let mut pushed_out = marked_table();
     for name in 0..SESSIONS_AN_AXLE as u8 {
-        pushed_out.store(1, &[name], true, &other).unwrap();
+        pushed_out.store(1, &[name], true, 0, &other).unwrap();
     }
     assert_eq!((marks(&pushed_out), pushed_out.held(1)), (0, Ok(8)));
 
     let mut withdrawn = marked_table();
-    withdrawn.store(1, b"later", true, &marked).unwrap();
+    withdrawn.store(1, b"later", true, MARKS, &marked).unwrap();
     assert_eq!(withdrawn.withdraw(1, &[MARK; 32]), Ok(true));
-    assert_eq!(marks(&withdrawn), 48);
+    assert_eq!(marks(&withdrawn), 2 + 48);
     withdrawn.clear();
     assert_eq!(marks(&withdrawn), 0);
 }
@@ -99,7 +102,7 @@ fn debug_shows_no_secret() {
     let all: [&dyn Debug; 8] = [&table, &session, &secret, &hash, &log, &connection, &list, &list.lists()];
     let text = format!("{all:?} {all:#?}");
     assert!(!text.contains("199") && !text.to_lowercase().contains("c7"), "{text}");
-    assert_eq!(format!("{session:?}"), "Session { ems: true, secret: Secret(..) }");
+    assert_eq!(format!("{session:?}"), format!("Session {{ ems: true, suite: {MARKS}, secret: Secret(..) }}"));
     assert_eq!(format!("{hash:?} {log:?}"), "Hash { .. } Log { .. }");
     assert_eq!(format!("{connection:?}"), "Connection { completed: false, indication: false, barred: false, .. }");
 }

@@ -23,19 +23,21 @@ fn master_secrets_differ_and_refuse() {
 fn one_axle_cannot_push_the_others_out() {
     let mut table = Table::new();
     for axle in [1, 2, 3, 5, 6] {
-        table.store(axle, b"kept", true, &Secret::from([axle; 48])).unwrap();
+        table.store(axle, b"kept", true, 0xc000 + u16::from(axle), &Secret::from([axle; 48])).unwrap();
     }
     for n in 0..1000u32 {
-        table.store(4, &n.to_be_bytes(), false, &Secret::from([4; 48])).unwrap();
+        table.store(4, &n.to_be_bytes(), false, 0x003b, &Secret::from([4; 48])).unwrap();
     }
     assert_eq!(format!("{table:?}"), "Table { held: [1, 1, 1, 8, 1, 1], .. }");
     for axle in [1, 2, 3, 5, 6] {
-        assert!(table.look_up(axle, b"kept").unwrap().is_some_and(|s| s.ems && *s.secret.as_bytes() == [axle; 48]));
+        let session = table.look_up(axle, b"kept").unwrap().unwrap();
+        assert_eq!((session.ems, session.suite), (true, 0xc000 + u16::from(axle)));
+        assert_eq!(*session.secret.as_bytes(), [axle; 48]);
     }
     assert!(table.look_up(1, b"other").unwrap().is_none());
     assert_eq!(table.withdraw(1, b"kept"), Ok(true));
     assert_eq!(table.withdraw(1, b"kept"), Ok(false));
-    assert_eq!(table.store(7, b"x", true, &Secret::from([0; 48])), Err(Refusal::AxleOrIdentifier));
+    assert_eq!(table.store(7, b"x", true, 0x003b, &Secret::from([0; 48])), Err(Refusal::AxleOrIdentifier));
     assert_eq!(table.held(4), Ok(8));
     table.clear();
     assert_eq!(table.held(4), Ok(0));

@@ -1,7 +1,7 @@
 -- The reply rule: what our server accepts and answers, our client accepts, with the same outcome.
 -- Assumes nothing.
 use mathlib.Core.Path.{_≡_, refl, sym, _∙_, ap, ap₂, subst}
-use mathlib.Core.Bool.{Bool, true, false, not, _||_}
+use mathlib.Core.Bool.{Bool, true, false, not, _&&_, _||_}
 use mathlib.Core.List.{List, [], _∷_, _++_}
 use mathlib.Core.Logic.{_⊎_, inl, inr, ⊎-elim}
 use mathlib.Core.Option.{Option, none, some}
@@ -18,13 +18,14 @@ use Rattle.refusal.specs.First.{firstOf}
 use Rattle.octets.specs.Same.{same}
 use Rattle.sessions.specs.Book.{Book, sought, badAxle}
 use Rattle.hello.specs.Extensions.{Extension, has, contentOf, indicationOf, emsOf, othersOf}
-use Rattle.hello.specs.Fields.{Hello, Reading, fields, readServer}
+use Rattle.hello.specs.Layout.{big}
+use Rattle.hello.specs.Fields.{Hello, Reading, fields, lists, readServer}
 use Rattle.hello.specs.Written.{behindMethod, riHolding, emsExtension, writtenBlock, Shaped}
 use Rattle.hello.proofs.Reread.{carried, ri-shaped, ems-shaped}
 use Rattle.decision.specs.Connection.{later, closed, wrongFirst, Outcome, fullEms, resumedEms, usesEms, decided, decision}
 use Rattle.decision.specs.Reply.{replyList, replyOf, offerOf, offerTurned}
-use Rattle.decision.specs.Server.{Asked, asked, faulty, Original, originalOf, sessionIn, serverFlag, resumable, serverOutcome, serverReply, serverNumber, serverDecision}
-use Rattle.decision.specs.Client.{Told, told, Lent, lentEms, badOffer, clientWrong, clientFlag, clientResumes, resumption, fullness, clientOutcome, clientNumber, clientDecision}
+use Rattle.decision.specs.Server.{Asked, asked, faulty, Original, originalOf, onOffer, sessionIn, serverFlag, resumable, serverOutcome, serverReply, serverNumber, serverDecision}
+use Rattle.decision.specs.Client.{Told, told, Lent, weighedOf, badOffer, clientWrong, clientFlag, clientResumes, suiteDiffers, resumption, fullness, clientOutcome, clientNumber, clientDecision}
 use Rattle.decision.specs.Agreement.{OurHello, SameSession, Agree}
 use Rattle.decision.specs.declared.connection.Connection.{Connection}
 use Rattle.decision.specs.declared.connection.Switches.{Switches}
@@ -119,32 +120,44 @@ module _ (axle : ℕ) (b : Book) (c : Connection) (s : Switches) (r : Reading) (
 
 -- EMS is always used, since our hello has it
 outcome-ems : (s : Switches) (k : Option Original)
-    → (serverOutcome s k true ≡ some fullEms) ⊎ ((k ≡ some (record { ems = true })) × (serverOutcome s k true ≡ some resumedEms))
+    → (serverOutcome s k true ≡ some fullEms) ⊎ ((o : Original) × (k ≡ some o) × (o .ems ≡ true) × (serverOutcome s k true ≡ some resumedEms))
 unfolding serverOutcome resumable
 outcome-ems s none = inl refl
-outcome-ems s (some k) = go (k .ems)
-  where
-    go : (e : Bool) → (resumable s e true ≡ some fullEms) ⊎ ((_≡_ {A = Option Original} (some (record { ems = e })) (some (record { ems = true }))) × (resumable s e true ≡ some resumedEms))
-    go false = inl refl
-    go true = inr (refl, refl)
+outcome-ems s (some k) = by-test (k .ems) (λ p. inr (k, refl, p, rw p)) (λ p. inl (rw p))
 
 -- the client's outcome, where the server's is o
 module _ (s′ : Switches) (i : List ℕ) (l : Option Lent) (t : Told) (ems : t .ems ≡ true) where
-  client-full : clientResumes i t ≡ false → clientOutcome s′ i (lentEms l) t ≡ some fullEms
+  client-full : clientResumes i t ≡ false → clientOutcome s′ i (weighedOf l) t ≡ some fullEms
   unfolding clientOutcome fullness
   client-full h = rw (h, ems)
 
-  client-resumed : clientResumes i t ≡ true → lentEms l ≡ true → clientOutcome s′ i (lentEms l) t ≡ some resumedEms
+  client-resumed : clientResumes i t ≡ true → weighedOf l .ems ≡ true → clientOutcome s′ i (weighedOf l) t ≡ some resumedEms
   unfolding clientOutcome resumption
   client-resumed h k = rw (h, ems, k)
 
 -- the client's number is 0
 client-zero : (c : Connection) (s′ : Switches) (r : Reading) (h : Hello) (i : List ℕ) (l : Option Lent) (o : Outcome) → r ≡ fields h → badOffer i l ≡ false
-    → told r .others ≡ false → closed c ≡ false → clientWrong c s′ (told r .ri) ≡ false → clientOutcome s′ i (lentEms l) (told r) ≡ some o → clientNumber r i l c s′ ≡ 0
+    → told r .others ≡ false → closed c ≡ false → clientWrong c s′ (told r .ri) ≡ false → suiteDiffers i (weighedOf l) (told r) ≡ false
+    → clientOutcome s′ i (weighedOf l) (told r) ≡ some o → clientNumber r i l c s′ ≡ 0
 unfolding clientNumber firstOf
-client-zero c s′ r h i l o e f g k w q =
+client-zero c s′ r h i l o e f g k w u q =
     let y : faulty r ≡ false = ap faulty e in
-    rw (f, y, g, k, w, q)
+    rw (f, y, g, k, w, u, q)
+
+pub no-session : (o : Original) → _≡_ {A = Option Original} none (some o) → ⊥
+no-session o q = let z : _≡_ {A = ℕ} 0 1 = cc in omega arith
+
+-- what is on offer of a session is that session
+abbrev held-in : Original → Option Original → Original
+held-in d none = d
+held-in d (some k) = k
+
+on-offer : (suites : List ℕ) (k o : Original) → onOffer suites (some k) ≡ some o → k ≡ o
+unfolding onOffer
+on-offer suites k o e =
+    by-test (lists (k .suite) suites)
+    (λ p. ap (held-in k) (rw p at e))
+    (λ p. absurd (no-session o (rw p at e)))
 
 -- ---- the rule, over the definitions alone: r is the server's reading, and the ServerHello m carries the reply of the definition
 
@@ -159,10 +172,7 @@ pub record Answers (axle : ℕ) (b : Book) (c : Connection) (s : Switches) (r : 
   pub answered : readServer m ≡ fields answer
   pub carries : behindMethod m answer ≡ serverReply c s (sessionIn axle r b) (asked r)
   pub repeats : (length i ≡ 0 → ⊥) → same (answer .identifier) i ≡ yes (serverDecision axle r (sessionIn axle r b) c s out .resumes)
-
-abbrev usedIn : Option Original → Bool
-usedIn none = false
-usedIn (some k) = k .ems
+  pub suite : yes (serverDecision axle r (sessionIn axle r b) c s out .resumes) ≡ true → big (answer .suites) ≡ shares .original .suite
 
 flag-set : (c : Connection) (a : Asked) (v : List ℕ) → a .ri ≡ some v → serverFlag c a ≡ true
 unfolding serverFlag
@@ -198,7 +208,7 @@ module _ (axle : ℕ) (b : Book) (c : Connection) (s s′ : Switches) (r : Readi
 
   -- the reply has RI and EMS, and the ServerHello has what the reply has
   uses : usesEms (serverOutcome s session (asked r .ems)) ≡ true
-  uses = ap (λ (e : Bool). usesEms (serverOutcome s session e)) asks-ems ∙ ⊎-elim (λ e. ap usesEms e) (λ e. ap usesEms (e .1)) (outcome-ems s session)
+  uses = ap (λ (e : Bool). usesEms (serverOutcome s session e)) asks-ems ∙ ⊎-elim (λ e. ap usesEms e) (λ e. ap usesEms (e .3)) (outcome-ems s session)
 
   carries : x .answer .extensions ≡ replied c
   unfolding serverReply
@@ -228,12 +238,12 @@ module _ (axle : ℕ) (b : Book) (c : Connection) (s s′ : Switches) (r : Readi
       (λ p. rw (le-ltb 32 (length i) (x .short), p, x .shares .client (eqb-false _ _ p), same-self i))
 
   -- both decisions, where both outcomes are o
-  agree : (o : Outcome) → serverOutcome s session true ≡ some o → clientOutcome s′ i (lentEms l) tells ≡ some o
+  agree : (o : Outcome) → serverOutcome s session true ≡ some o → suiteDiffers i (weighedOf l) tells ≡ false → clientOutcome s′ i (weighedOf l) tells ≡ some o
       → Agree (serverDecision axle r session c s out) (clientDecision (readServer m) i l c s′)
   unfolding clientDecision decided
-  agree o e f =
+  agree o e u f =
       let still = open-still axle b c s r out session (x .asks) (x .reads) zero in
-      let n = client-zero c s′ (readServer m) (x .answer) i l o (x .answered) good-offer tells-others still (right c s′ tells tells-ri) f in
+      let n = client-zero c s′ (readServer m) (x .answer) i l o (x .answered) good-offer tells-others still (right c s′ tells tells-ri) u f in
       rw (server-is o e, decision-of _ _ _ o _ 0 n f (flagged c s′ tells tells-ri))
       (record { accepted = refl; resumes = refl; ems = refl; flag = refl; bar = refl; bars-export = refl; bars-verify-data = refl })
 
@@ -249,7 +259,7 @@ module _ (axle : ℕ) (b : Book) (c : Connection) (s s′ : Switches) (r : Readi
       let z : length (x .asks .identifier) ≡ 0 = ap length (x .ours .identifier) ∙ h in
       rw (x .reads, eq-eqb (length (x .asks .identifier)) 0 z)
 
-  found : (length i ≡ 0 → ⊥) → session ≡ originalOf (sought axle i b)
+  found : (length i ≡ 0 → ⊥) → session ≡ onOffer (x .asks .suites) (originalOf (sought axle i b))
   unfolding sessionIn
   found h =
       let z : length (x .asks .identifier) ≡ length i = ap length (x .ours .identifier) in
@@ -259,28 +269,43 @@ module _ (axle : ℕ) (b : Book) (c : Connection) (s s′ : Switches) (r : Readi
   unfolding clientResumes
   unnamed p = rw p
 
+  -- the suite is asked only where it resumes, and then it is the session's
+  unasked : clientResumes i tells ≡ false → suiteDiffers i (weighedOf l) tells ≡ false
+  unfolding suiteDiffers
+  unasked h = rw h
+
+  named : tells .suite ≡ weighedOf l .suite → suiteDiffers i (weighedOf l) tells ≡ false
+  unfolding suiteDiffers
+  named h = rw (eq-eqb (tells .suite) (weighedOf l .suite) h) (neither (clientResumes i tells))
+    where
+      neither : (y : Bool) → (y && false) ≡ false
+      neither true = refl
+      neither false = refl
+
   full : serverOutcome s session true ≡ some fullEms → Agree (serverDecision axle r session c s out) (clientDecision (readServer m) i l c s′)
   full e =
-      agree fullEms e
-      (client-full s′ i l tells tells-ems (by-test (eqb (length i) 0) unnamed (λ p. names fullEms e (eqb-false _ _ p))))
+      let n : clientResumes i tells ≡ false = by-test (eqb (length i) 0) unnamed (λ p. names fullEms e (eqb-false _ _ p)) in
+      agree fullEms e (unasked n) (client-full s′ i l tells tells-ems n)
 
-  resumed : session ≡ some (record { ems = true }) → serverOutcome s session true ≡ some resumedEms → Agree (serverDecision axle r session c s out) (clientDecision (readServer m) i l c s′)
-  resumed k e =
-      let h : length i ≡ 0 → ⊥ = λ z. different (sym k ∙ empty-none z) in
+  resumed : (o : Original) → session ≡ some o → o .ems ≡ true → serverOutcome s session true ≡ some resumedEms
+      → Agree (serverDecision axle r session c s out) (clientDecision (readServer m) i l c s′)
+  unfolding onOffer
+  resumed o k u e =
+      let h : length i ≡ 0 → ⊥ = λ z. no-session o (sym (empty-none z) ∙ k) in
+      let w : weighedOf l ≡ x .shares .original = ap weighedOf (x .shares .client h) in
+      let v : x .shares .original ≡ o =
+      ⊎-elim
+      (λ q. absurd (no-session o (sym (found h ∙ ap (onOffer (x .asks .suites)) q) ∙ k)))
+      (λ q. on-offer (x .asks .suites) (x .shares .original) o (sym (found h ∙ ap (onOffer (x .asks .suites)) q) ∙ k))
+      (x .shares .server h) in
       agree resumedEms e
-      (client-resumed s′ i l tells tells-ems (names resumedEms e h)
-      (ap lentEms (x .shares .client h) ∙ ⊎-elim (λ q. absurd (different (sym k ∙ found h ∙ q))) (λ q. same-ems (sym k ∙ found h ∙ q)) (x .shares .server h)))
-    where
-      different : _≡_ {A = Option Original} (some (record { ems = true })) none → ⊥
-      different q = let z : _≡_ {A = ℕ} 0 1 = cc in omega arith
-
-      same-ems : _≡_ {A = Option Original} (some (record { ems = true })) (some (record { ems = x .shares .ems })) → x .shares .ems ≡ true
-      same-ems q = sym (ap usedIn q)
+      (named (tells-of (λ t. t .suite) ∙ x .suite (server-resumes resumedEms e) ∙ ap (λ (y : Original). y .suite) (sym w)))
+      (client-resumed s′ i l tells tells-ems (names resumedEms e h) (ap (λ (y : Original). y .ems) (w ∙ v) ∙ u))
 
 pub answers-agree : (axle : ℕ) (b : Book) (c : Connection) (s s′ : Switches) (r : Reading) (out i : List ℕ) (l : Option Lent) (m : List ℕ)
     → Answers axle b c s r out i l m → Agree (serverDecision axle r (sessionIn axle r b) c s out) (clientDecision (readServer m) i l c s′)
 answers-agree axle b c s s′ r out i l m x =
     ⊎-elim
     (λ e. full axle b c s s′ r out i l m x e)
-    (λ e. resumed axle b c s s′ r out i l m x (e .0) (e .1))
+    (λ e. resumed axle b c s s′ r out i l m x (e .0) (e .1) (e .2) (e .3))
     (outcome-ems s (sessionIn axle r b))

@@ -32,8 +32,9 @@ ri-said m es p h =
 same-asked : {a a′ b b′ : Bool} {r r′ : Option (List ℕ)} → a ≡ a′ → r ≡ r′ → b ≡ b′ → askedOf a r b ≡ askedOf a′ r′ b′
 same-asked p q r = rw (p, q, r)
 
-same-told : {i i′ : List ℕ} {a a′ b b′ : Bool} {r r′ : Option (List ℕ)} → i ≡ i′ → r ≡ r′ → a ≡ a′ → b ≡ b′ → toldOf i r a b ≡ toldOf i′ r′ a′ b′
-same-told i p q r = rw (i, p, q, r)
+same-told : {i i′ : List ℕ} {s s′ : ℕ} {a a′ b b′ : Bool} {r r′ : Option (List ℕ)} → i ≡ i′ → s ≡ s′ → r ≡ r′ → a ≡ a′ → b ≡ b′
+    → toldOf i s r a b ≡ toldOf i′ s′ r′ a′ b′
+same-told i s p q r = rw (i, s, p, q, r)
 
 -- n is how many bytes of the message the RI takes
 pub asked-is : (m : List ℕ) (h : ClientHello) (n : ℕ) → ClientWas m h → n ≡ h .extensions .indication .length
@@ -52,7 +53,7 @@ asked-is m h n w e =
 
 -- and j how many the identifier takes
 pub told-is : (m : List ℕ) (h : ServerHello) (j n : ℕ) → ServerWas m h → j ≡ h .identifier .length → n ≡ h .extensions .indication .length
-    → toldOf (take j (drop (h .identifier .at) m)) (riOf (yes (h .extensions .indicated)) (take n (drop (h .extensions .indication .at) m))) (yes (h .extensions .ems)) (yes (h .extensions .others))
+    → toldOf (take j (drop (h .identifier .at) m)) (h .suite) (riOf (yes (h .extensions .indicated)) (take n (drop (h .extensions .indication .at) m))) (yes (h .extensions .ems)) (yes (h .extensions .others))
     ≡ told (readServer m)
 unfolding serverPlaces extensionsAt
 told-is m h j n w d e =
@@ -61,6 +62,7 @@ told-is m h j n w d e =
     let i : yes (h .extensions .indicated) ≡ has riKind (l .hello .extensions) = ap (λ (x : ServerHello). yes (x .extensions .indicated)) p ∙ yes-bit (has riKind (l .hello .extensions)) in
     same-told
     (ap (λ (k : ℕ). take k (drop (h .identifier .at) m)) d ∙ l .identifier .is)
+    (l .suite)
     (ap₂ (λ (x : Bool) (k : ℕ). riOf x (take k (drop (h .extensions .indication .at) m))) i e ∙ ri-said m (l .hello .extensions) (h .extensions .indication) (l .extensions .indication))
     (ap (λ (x : ServerHello). yes (x .extensions .ems)) p ∙ yes-bit (emsOf (l .hello .extensions)))
     (ap (λ (x : ServerHello). yes (x .extensions .others)) p ∙ yes-bit (othersOf (l .hello .extensions)))

@@ -81,4 +81,5 @@ reply-rule t b axle c s s′ h out out′ m i l d d′ x =
       answered = x .answered;
       carries = x .carries ∙ w;
       repeats = λ z. x .repeats z ∙ ap (λ (y : Decision). yes (y .resumes)) (q .answer);
+      suite = λ z. x .suite (ap (λ (y : Decision). yes (y .resumes)) (q .answer) ∙ z);
     }))

@@ -8,3 +8,4 @@ pub mod Serving
 pub mod Agreement
 pub mod Joined
 pub mod Witness
+pub mod Order2

@@ -1,6 +1,6 @@
 -- The server's whole decision: the axle, the reading, the session, and what is decided on them.
 -- Assumes nothing.
-use mathlib.Core.Path.{_≡_, refl, sym, _∙_, ap, subst}
+use mathlib.Core.Path.{_≡_, refl, sym, _∙_, ap, ap₂, subst}
 use mathlib.Core.Bool.{Bool, true, false}
 use mathlib.Core.List.{List, []}
 use mathlib.Core.Option.{Option, none, some}
@@ -9,7 +9,7 @@ use native.Mathlib.Omega.{arith}
 use lib.Dec.{eqb, ltb}
 use lib.ListN.{length}
 use borrow.Author.Tests.{eq-eqb, ne-eqb, eqb-true, le-leb, lt-leb, ltb-true, ltb-false}
-use Rattle.seqs.specs.Pick.{pick}
+use Rattle.seqs.proofs.Flag.{yes-bit}
 use Rattle.seqs.specs.Cases.{by-test}
 use Rattle.refusal.specs.First.{firstOf}
 use Rattle.refusal.specs.Table.{refusalOf, refusalAt}
@@ -23,7 +23,7 @@ use Rattle.sessions.specs.declared.calls.Known.the-variants as known
 use Rattle.hello.specs.Fields.{Hello, Reading, fields}
 use Rattle.hello.proofs.Learnt.{Faulted}
 use Rattle.decision.specs.Connection.{Outcome, refusing, refusedBy, decided, decision}
-use Rattle.decision.specs.Server.{asked, faultPlace, Original, originalOf, sessionIn, serverNumber, serverDecision, serverOutput, DecidedBy, ServerDecides}
+use Rattle.decision.specs.Server.{asked, faultPlace, Original, originalOf, onOffer, sessionIn, serverNumber, serverDecision, serverOutput, DecidedBy, ServerDecides}
 use Rattle.decision.specs.Steps.{plainNumber, Plain, originalIn, SessionIs}
 use Rattle.decision.specs.declared.connection.Connection.{Connection}
 use Rattle.decision.specs.declared.connection.Switches.{Switches}
@@ -45,11 +45,7 @@ axle-high a h =
 -- the session
 known-original : (o : Option Session) → originalIn (knownOf o) ≡ originalOf o
 known-original none = refl
-known-original (some s) = go (s .ems)
-  where
-    go : (e : Bool) → originalIn (pick e known.WithEms known.WithoutEms) ≡ some (record { ems = e })
-    go true = refl
-    go false = refl
+known-original (some s) = ap (λ (e : Bool). some (record { ems = e; suite = s .suite })) (yes-bit (s .ems))
 
 module _ (t : Table) (axle : ℕ) (r : Reading) (f : Hello) (e : r ≡ fields f) where
   pub session-none : length (f .identifier) ≡ 0 → SessionIs t axle r known.Nothing
@@ -61,15 +57,20 @@ module _ (t : Table) (axle : ℕ) (r : Reading) (f : Hello) (e : r ≡ fields f)
         answers = λ b k. rw (e, eq-eqb (length (f .identifier)) 0 h);
       }
 
-  looked : (length (f .identifier) ≡ 0 → ⊥) → (b : Book) → sessionIn axle r b ≡ originalOf (sought axle (f .identifier) b)
+  looked : (length (f .identifier) ≡ 0 → ⊥) → (b : Book) → sessionIn axle r b ≡ onOffer (f .suites) (originalOf (sought axle (f .identifier) b))
   unfolding sessionIn
   looked h b = rw (e, ne-eqb (length (f .identifier)) 0 h)
 
-  pub session-found : (length (f .identifier) ≡ 0 → ⊥) → (i : List ℕ) (k : Known) → i ≡ f .identifier → Knows t axle i k → SessionIs t axle r k
-  session-found h i k q w = record { book = w .book; of-book = from (w .book) (w .of-book); answers = λ b x. from b (w .answers b x) }
+  -- the session k that is known, and k′, which is left of it where it is on offer
+  pub session-found : (length (f .identifier) ≡ 0 → ⊥) → (i u : List ℕ) (k k′ : Known) → i ≡ f .identifier → u ≡ f .suites → Knows t axle i k
+      → originalIn k′ ≡ onOffer u (originalIn k) → SessionIs t axle r k′
+  session-found h i u k k′ q v w o = record { book = w .book; of-book = from (w .book) (w .of-book); answers = λ b x. from b (w .answers b x) }
     where
-      from : (b : Book) → k ≡ knownOf (sought axle i b) → originalIn k ≡ sessionIn axle r b
-      from b x = ap originalIn x ∙ known-original (sought axle i b) ∙ sym (looked h b ∙ ap (λ (y : List ℕ). originalOf (sought axle y b)) (sym q))
+      from : (b : Book) → k ≡ knownOf (sought axle i b) → originalIn k′ ≡ sessionIn axle r b
+      from b x =
+          o
+          ∙ ap₂ onOffer v (ap originalIn x ∙ known-original (sought axle i b) ∙ ap (λ (y : List ℕ). originalOf (sought axle y b)) q)
+          ∙ sym (looked h b)
 
 -- a decision bears its number
 pub decision-number : (n p : ℕ) (o : Option Outcome) (flag : Bool) (size : ℕ) → decision n p o flag size .refusal .number ≡ n

@@ -2,7 +2,7 @@
 -- Assumes nothing.
 use mathlib.Core.Path.{_≡_, refl, sym, _∙_, ap}
 use mathlib.Core.Bool.{Bool, true, false, not, _||_}
-use mathlib.Core.List.{List}
+use mathlib.Core.List.{List, [], _∷_}
 use mathlib.Core.Option.{Option, none, some}
 use Prim.Native.Nat.{ℕ, _≤_, _<_}
 use native.Mathlib.Omega.{arith}
@@ -18,8 +18,8 @@ use Rattle.refusal.specs.declared.Refusal.{Refusal}
 use Rattle.hello.specs.Fields.{Hello, Reading, fields}
 use Rattle.hello.proofs.Learnt.{Faulted}
 use Rattle.decision.specs.Connection.{later, closed, present, Outcome, forbidden, refusing, refusedBy}
-use Rattle.decision.specs.Server.{faultPlace}
-use Rattle.decision.specs.Client.{Told, told, Lent, lentOf, lentEms, badOffer, clientWrong, clientFlag, clientResumes, clientOutcome, clientNumber, clientDecision}
+use Rattle.decision.specs.Server.{faultPlace, Original}
+use Rattle.decision.specs.Client.{Told, told, Lent, lentOf, weighedOf, badOffer, clientWrong, clientFlag, clientResumes, suiteDiffers, clientOutcome, clientNumber, clientDecision}
 use Rattle.decision.specs.Steps.{riOf, clientIndication, decidedIn, toldNumber, clientPlain}
 use Rattle.decision.specs.declared.connection.Connection.{Connection}
 use Rattle.decision.specs.declared.connection.Switches.{Switches}
@@ -27,20 +27,20 @@ use Rattle.decision.specs.declared.connection.Decision.{Decision}
 use Rattle.decision.proofs.Judging.{decision-refused, decision-done}
 
 -- the offer
-module _ (i : List ℕ) (lent : Bool) (j : List ℕ) (ems : Bool) where
-  pub offer-long : 32 < length i → badOffer i (lentOf lent j ems) ≡ true
+module _ (i : List ℕ) (lent : Bool) (j : List ℕ) (o : Original) where
+  pub offer-long : 32 < length i → badOffer i (lentOf lent j o) ≡ true
   unfolding badOffer
   offer-long h = rw (lt-ltb 32 (length i) h)
 
-  pub offer-none : length i ≡ 0 → badOffer i (lentOf lent j ems) ≡ false
+  pub offer-none : length i ≡ 0 → badOffer i (lentOf lent j o) ≡ false
   unfolding badOffer
   offer-none h = rw (le-ltb 32 (length i) (omega arith), eq-eqb (length i) 0 h)
 
-  pub offer-lent : length i ≤ 32 → (length i ≡ 0 → ⊥) → lent ≡ true → badOffer i (lentOf lent j ems) ≡ not (same j i)
+  pub offer-lent : length i ≤ 32 → (length i ≡ 0 → ⊥) → lent ≡ true → badOffer i (lentOf lent j o) ≡ not (same j i)
   unfolding badOffer
   offer-lent h k l = rw (le-ltb 32 (length i) h, ne-eqb (length i) 0 k, l)
 
-  pub offer-unlent : length i ≤ 32 → (length i ≡ 0 → ⊥) → lent ≡ false → badOffer i (lentOf lent j ems) ≡ true
+  pub offer-unlent : length i ≤ 32 → (length i ≡ 0 → ⊥) → lent ≡ false → badOffer i (lentOf lent j o) ≡ true
   unfolding badOffer
   offer-unlent h k l = rw (le-ltb 32 (length i) h, ne-eqb (length i) 0 k, l)
 
@@ -53,7 +53,7 @@ module _ (i : List ℕ) (t : Told) where
   unfolding clientResumes
   names-some h = rw (ne-eqb (length i) 0 h)
 
-module _ (c : Connection) (s : Switches) (i : List ℕ) (e : Bool) (t : Told) where
+module _ (c : Connection) (s : Switches) (i : List ℕ) (e : Original) (t : Told) where
   refusal-of : (n : ℕ) {d : Decision} → toldNumber c s i e t ≡ n → (n ≡ 0 → ⊥) → d ≡ refusing (refusalOf n) → d ≡ clientPlain c s i e t
   unfolding clientPlain refusedBy refusalOf
   refusal-of n p h q = rw p (q ∙ sym (decision-refused n 0 _ _ _ h))
@@ -76,7 +76,7 @@ module _ (c : Connection) (s : Switches) (i : List ℕ) (e : Bool) (t : Told) wh
             (λ y. rw (known, x, y) (rw (x, y) at p))
             (λ y. absurd (h (sym (rw (x, y) at p)))))
 
-    past : clientIndication c s (t .ri) ≡ 0 → toldNumber c s i e t ≡ pick (forbidden (clientOutcome s i e t)) 6 0
+    past : clientIndication c s (t .ri) ≡ 0 → toldNumber c s i e t ≡ firstOf ((12, suiteDiffers i e t) ∷ (6, forbidden (clientOutcome s i e t)) ∷ [])
     unfolding toldNumber clientIndication clientWrong firstOf
     past p =
         by-test (closed c)
@@ -86,13 +86,17 @@ module _ (c : Connection) (s : Switches) (i : List ℕ) (e : Bool) (t : Told) wh
         (λ y. let z : _≡_ {A = ℕ} 5 0 = rw (x, y) at p in absurd (omega arith))
         (λ y. rw (known, x, y)))
 
-    pub told-done : {d : Decision} {flag : Bool} → clientIndication c s (t .ri) ≡ 0 → flag ≡ clientFlag c t
+    pub told-suite : {d : Decision} → clientIndication c s (t .ri) ≡ 0 → suiteDiffers i e t ≡ true → d ≡ refusing (refusalOf 12) → d ≡ clientPlain c s i e t
+    unfolding firstOf
+    told-suite p x q = refusal-of 12 (past p ∙ (rw x)) (λ z. omega arith) q
+
+    pub told-done : {d : Decision} {flag : Bool} → clientIndication c s (t .ri) ≡ 0 → suiteDiffers i e t ≡ false → flag ≡ clientFlag c t
         → d ≡ decidedIn (clientOutcome s i e t) flag 0 → d ≡ clientPlain c s i e t
-    unfolding clientPlain refusedBy refusalOf
-    told-done p f q =
+    unfolding clientPlain refusedBy refusalOf firstOf
+    told-done p u f q =
         by-test (forbidden (clientOutcome s i e t))
-        (λ x. refusal-of 6 (past p ∙ (rw x)) (λ z. omega arith) (q ∙ six (clientOutcome s i e t) _ x))
-        (λ x. rw (past p, x, ← f) (q ∙ sym (decision-done 0 (clientOutcome s i e t) _ 0 x)))
+        (λ x. refusal-of 6 (past p ∙ (rw (u, x))) (λ z. omega arith) (q ∙ six (clientOutcome s i e t) _ x))
+        (λ x. rw (past p, u, x, ← f) (q ∙ sym (decision-done 0 (clientOutcome s i e t) _ 0 x)))
       where
         six : (o : Option Outcome) (flag : Bool) → forbidden o ≡ true → decidedIn o flag 0 ≡ refusing (refusalOf 6)
         six none flag h = refl
@@ -121,6 +125,6 @@ module _ (r : Reading) (i : List ℕ) (l : Option Lent) (c : Connection) (s : Sw
   unfolding clientNumber firstOf
   decide-fault h f q = whole-refusal (f .number) (rw (h, f .reading)) (f .some) (q ∙ ap refusing (f .refusal ∙ ap (refusalAt (f .number)) (sym (ap faultPlace (f .reading)))))
 
-  pub decide-told : {d : Decision} {h : Hello} {e : Bool} → badOffer i l ≡ false → r ≡ fields h → e ≡ lentEms l → d ≡ clientPlain c s i e (told r) → d ≡ clientDecision r i l c s
+  pub decide-told : {d : Decision} {h : Hello} {e : Original} → badOffer i l ≡ false → r ≡ fields h → e ≡ weighedOf l → d ≡ clientPlain c s i e (told r) → d ≡ clientDecision r i l c s
   unfolding clientNumber clientDecision clientPlain toldNumber clientOutcome firstOf
   decide-told o f e q = q ∙ (rw (e, o, f))

@@ -5,7 +5,7 @@
 -- of each kind that meets what it supposes.
 -- Assumes nothing.
 use mathlib.Core.Path.{_≡_}
-use mathlib.Core.Bool.{Bool, false}
+use mathlib.Core.Bool.{true, false}
 use mathlib.Core.List.{List}
 use mathlib.Core.Logic.{_⊎_}
 use mathlib.Core.Option.{Option, none, some}
@@ -17,10 +17,11 @@ use Rattle.octets.specs.Same.{same}
 use Rattle.sessions.specs.Book.{Book, sought}
 use Rattle.sessions.specs.Keeps.{Keeps}
 use Rattle.sessions.specs.declared.table.Table.{Table}
+use Rattle.hello.specs.Layout.{big}
 use Rattle.hello.specs.Fields.{Hello, fields, signalIn, readClient, readServer}
 use Rattle.hello.specs.Written.{behindMethod}
 use Rattle.decision.specs.Reply.{offerOf, offerTurned}
-use Rattle.decision.specs.Server.{originalOf, ServerDecides}
+use Rattle.decision.specs.Server.{Original, originalOf, ServerDecides}
 use Rattle.decision.specs.Client.{Lent, clientDecision}
 use Rattle.decision.specs.declared.connection.Connection.{Connection}
 use Rattle.decision.specs.declared.connection.Switches.{Switches}
@@ -33,11 +34,11 @@ pub record OurHello (c : Connection) (i : List ℕ) (h : Hello) : Type 0 where
   pub extensions : (h .extensions ≡ offerOf c) ⊎ (h .extensions ≡ offerTurned c)
 
 -- 'both hold .. the same session': the client's bears the offered identifier, and the server's, if it has not lost it, has the
--- same EMS. Where nothing is offered no session is asked on either side.
+-- same EMS and the same suite. Where nothing is offered no session is asked on either side.
 pub record SameSession (axle : ℕ) (b : Book) (i : List ℕ) (l : Option Lent) : Type 0 where
-  pub ems : Bool
-  pub client : (length i ≡ 0 → ⊥) → l ≡ some (record { identifier = i; ems = ems })
-  pub server : (length i ≡ 0 → ⊥) → (originalOf (sought axle i b) ≡ none) ⊎ (originalOf (sought axle i b) ≡ some (record { ems = ems }))
+  pub original : Original
+  pub client : (length i ≡ 0 → ⊥) → l ≡ some (record { identifier = i; original = original })
+  pub server : (length i ≡ 0 → ⊥) → (originalOf (sought axle i b) ≡ none) ⊎ (originalOf (sought axle i b) ≡ some original)
 
 -- What the rule supposes of two calls. Our server was given the ClientHello h of an axle, the table t, which keeps the book b, the
 -- connection record c, switches s, and an output that held out; it answered d, and the output then held out′. Our client was given the
@@ -59,6 +60,8 @@ pub record Exchange (t : Table) (b : Book) (axle : ℕ) (c : Connection) (s s′
   pub carries : behindMethod m answer ≡ take (d .«reply_length») out′
   -- 'and repeats a non-empty offered identifier exactly when it resumes'
   pub repeats : (length i ≡ 0 → ⊥) → same (answer .identifier) i ≡ yes (d .resumes)
+  -- Order 2: 'demand 2's reply rule supposes such a ServerHello', one that names the session's suite where it resumes
+  pub suite : yes (d .resumes) ≡ true → big (answer .suites) ≡ shares .original .suite
 
 -- what it promises of the two decisions
 pub record Agree (server client : Decision) : Type 0 where

@@ -1,4 +1,4 @@
--- Six exchanges, one of each kind, in bytes: what the reply rule of specs/Agreement.antt supposes can be met. It is computed in
+-- Seven exchanges, one of each kind, in bytes: what the reply rule of specs/Agreement.antt supposes can be met. It is computed in
 -- proofs/Witness.antt.
 -- Assumes nothing.
 use mathlib.Core.Path.{_≡_}
@@ -76,14 +76,14 @@ bothRi = 0xff ∷ 0x01 ∷ 0x00 ∷ 0x19 ∷ 0x18 ∷ clientData ++ serverData
 abbrev pub laterConnection : Connection
 laterConnection = record { completed = 1; indication = 1; barred = 0; client = clientData; server = serverData }
 
--- one session, identifier 07, with EMS or not: in the server's book, and as the client has it
-abbrev pub kept : Bool → Book
-kept e = record { axle = 3; identifier = 0x07 ∷ []; ems = e; secret = replicate 48 0 } ∷ []
+-- one session, identifier 07, with EMS or not, of a suite: in the server's book, and as the client has it
+abbrev pub kept : Bool → ℕ → Book
+kept e suite = record { axle = 3; identifier = 0x07 ∷ []; ems = e; suite = suite; secret = replicate 48 0 } ∷ []
 
-abbrev pub lent : Bool → Option Lent
-lent e = some (record { identifier = 0x07 ∷ []; ems = e })
+abbrev pub lent : Bool → ℕ → Option Lent
+lent e suite = some (record { identifier = 0x07 ∷ []; original = record { ems = e; suite = suite } })
 
--- ---- the six
+-- ---- the seven
 
 -- nothing is offered; the server names a new session, 09 09
 abbrev pub firstFull : Case
@@ -101,8 +101,8 @@ firstFull =
 abbrev pub firstResumed : Case
 firstResumed =
     record {
-      book = kept true;
-      lent = lent true;
+      book = kept true 0x002f;
+      lent = lent true 0x002f;
       connection = freshConnection;
       hello = head 0x01 0x35 ++ (0x01 ∷ 0x07 ∷ []) ++ listed ++ (0x00 ∷ 0x09 ∷ []) ++ emptyRi ++ ems;
       offered = 0x07 ∷ [];
@@ -114,8 +114,8 @@ firstResumed =
 abbrev pub sessionWithoutEms : Case
 sessionWithoutEms =
     record {
-      book = kept false;
-      lent = lent false;
+      book = kept false 0x002f;
+      lent = lent false 0x002f;
       connection = freshConnection;
       hello = head 0x01 0x35 ++ (0x01 ∷ 0x07 ∷ []) ++ listed ++ (0x00 ∷ 0x09 ∷ []) ++ ems ++ emptyRi;
       offered = 0x07 ∷ [];
@@ -128,7 +128,20 @@ abbrev pub sessionLost : Case
 sessionLost =
     record {
       book = empty;
-      lent = lent true;
+      lent = lent true 0x002f;
+      connection = freshConnection;
+      hello = head 0x01 0x35 ++ (0x01 ∷ 0x07 ∷ []) ++ listed ++ (0x00 ∷ 0x09 ∷ []) ++ emptyRi ++ ems;
+      offered = 0x07 ∷ [];
+      answer = head 0x02 0x33 ++ (0x02 ∷ 0x09 ∷ 0x09 ∷ []) ++ named ++ (0x00 ∷ 0x09 ∷ []) ++ emptyRi ++ ems;
+      resumes = false;
+    }
+
+-- the session has another suite, 00 35, which our hello no longer lists, so that a new one is made
+abbrev pub suiteUnlisted : Case
+suiteUnlisted =
+    record {
+      book = kept true 0x0035;
+      lent = lent true 0x0035;
       connection = freshConnection;
       hello = head 0x01 0x35 ++ (0x01 ∷ 0x07 ∷ []) ++ listed ++ (0x00 ∷ 0x09 ∷ []) ++ emptyRi ++ ems;
       offered = 0x07 ∷ [];
@@ -152,8 +165,8 @@ laterFull =
 abbrev pub laterResumed : Case
 laterResumed =
     record {
-      book = kept true;
-      lent = lent true;
+      book = kept true 0x002f;
+      lent = lent true 0x002f;
       connection = laterConnection;
       hello = head 0x01 0x41 ++ (0x01 ∷ 0x07 ∷ []) ++ listed ++ (0x00 ∷ 0x15 ∷ []) ++ ems ++ laterRi;
       offered = 0x07 ∷ [];
@@ -166,5 +179,6 @@ pub record Witnesses : Type 0 where
   pub first-resumed : Meets firstResumed
   pub session-without-ems : Meets sessionWithoutEms
   pub session-lost : Meets sessionLost
+  pub suite-unlisted : Meets suiteUnlisted
   pub later-full : Meets laterFull
   pub later-resumed : Meets laterResumed

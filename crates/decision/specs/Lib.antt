@@ -5,3 +5,4 @@ pub mod Client
 pub mod Steps
 pub mod Agreement
 pub mod Exchanges
+pub mod Order2

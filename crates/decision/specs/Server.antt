@@ -14,7 +14,7 @@ use Rattle.sessions.specs.Book.{Session, Book, sought, badAxle}
 use Rattle.sessions.specs.Keeps.{Keeps}
 use Rattle.sessions.specs.declared.table.Table.{Table}
 use Rattle.hello.specs.Extensions.{indicationOf, emsOf}
-use Rattle.hello.specs.Fields.{Reading, fields, fault, signalIn}
+use Rattle.hello.specs.Fields.{Reading, fields, fault, lists, signalIn}
 use Rattle.decision.specs.Connection.{later, closed, present, saying, wrongFirst, legacyFull, legacyResumption, Outcome, fullEms, fullLegacy, resumedEms, resumedLegacy, allowed, forbidden, usesEms, decision}
 use Rattle.decision.specs.Reply.{replyOf}
 use Rattle.decision.specs.declared.connection.Connection.{Connection}
@@ -47,17 +47,27 @@ abbrev pub faultPlace : Reading → ℕ
 faultPlace (fields h) = 0
 faultPlace (fault n p) = p
 
--- what is weighed of a session that could be resumed, RFC 7627's 'original session': was its master secret made with EMS?
+-- what is weighed of a session that could be resumed, RFC 7627's 'original session': was its master secret made with EMS, and which is
+-- its suite?
 pub record Original : Type 0 where
   pub ems : Bool
+  pub suite : ℕ
 
 abbrev pub originalOf : Option Session → Option Original
 originalOf none = none
-originalOf (some s) = some (record { ems = s .ems })
+originalOf (some s) = some (record { ems = s .ems; suite = s .suite })
 
--- 'The hello's identifier, if not empty, is looked up for its axle': what is weighed of the session found, or none
+-- Order 2: 'On the server, a known session whose suite isn't listed counts as none.' RFC 5246, section 7.4.1.2: 'If the session_id
+-- field is not empty (implying a session resumption request), this vector MUST include at least the cipher_suite from that session.'
+unfoldable pub onOffer : List ℕ → Option Original → Option Original
+onOffer suites none = none
+onOffer suites (some k) = pick (lists (k .suite) suites) (some k) none
+
+-- 'The hello's identifier, if not empty, is looked up for its axle': what is weighed of the session found, or none. 'What counts as none
+-- is none before document 01's outcomes and RFC 7627 section 5.3 are asked': nothing below knows of it.
 unfoldable pub sessionIn : ℕ → Reading → Book → Option Original
-sessionIn axle (fields h) b = pick (eqb (length (h .identifier)) 0) none (originalOf (sought axle (h .identifier) b))
+sessionIn axle (fields h) b =
+    pick (eqb (length (h .identifier)) 0) none (onOffer (h .suites) (originalOf (sought axle (h .identifier) b)))
 sessionIn axle (fault n p) b = none
 
 -- 5. First handshake: as of either side, where the signal stands for an empty RI. Later: 'the signal present is 5, RI missing

@@ -8,6 +8,7 @@ use Prim.Native.Nat.{ℕ, _≤_}
 use lib.Dec.{eqb}
 use lib.ListN.{length, take}
 use Rattle.seqs.specs.Pick.{pick}
+use Rattle.seqs.specs.Flag.{yes}
 use Rattle.octets.specs.Put.{putList}
 use Rattle.refusal.specs.First.{firstOf}
 use Rattle.decision.specs.Connection.{closed, Outcome, fullEms, fullLegacy, resumedEms, resumedLegacy, refusedBy, decided, decision}
@@ -18,6 +19,7 @@ use Rattle.hello.specs.Fields.{Reading, readClient, readServer}
 use Rattle.sessions.specs.Book.{Book}
 use Rattle.sessions.specs.Keeps.{Keeps}
 use Rattle.sessions.specs.declared.table.Table.{Table}
+use Rattle.sessions.specs.declared.calls.Weighed.{Weighed}
 use Rattle.sessions.specs.declared.calls.Known.{Known}
 use Rattle.sessions.specs.declared.calls.Known.the-variants as known
 use Rattle.hello.specs.Places.{clientAnswer, serverAnswer}
@@ -87,21 +89,24 @@ ClientWas m h = client.Read h ≡ clientAnswer (readClient m)
 abbrev pub ServerWas : List ℕ → ServerHello → Type 0
 ServerWas m h = server.Read h ≡ serverAnswer (readServer m)
 
-abbrev pub toldOf : List ℕ → Option (List ℕ) → Bool → Bool → Told
-toldOf i ri ems others = record { identifier = i; ri = ri; ems = ems; others = others }
+abbrev pub toldOf : List ℕ → ℕ → Option (List ℕ) → Bool → Bool → Told
+toldOf i suite ri ems others = record { identifier = i; suite = suite; ri = ri; ems = ems; others = others }
 
--- the client's decision on a hello that was read, for a good offer i of a session whose EMS is e
-unfoldable pub toldNumber : Connection → Switches → List ℕ → Bool → Told → ℕ
-toldNumber c s i e t = firstOf (clientTests c s i e t)
+-- the client's decision on a hello that was read, for a good offer i of a session of which k is weighed
+unfoldable pub toldNumber : Connection → Switches → List ℕ → Original → Told → ℕ
+toldNumber c s i k t = firstOf (clientTests c s i k t)
 
-unfoldable pub clientPlain : Connection → Switches → List ℕ → Bool → Told → Decision
-clientPlain c s i e t = decision (toldNumber c s i e t) 0 (clientOutcome s i e t) (clientFlag c t) 0
+unfoldable pub clientPlain : Connection → Switches → List ℕ → Original → Told → Decision
+clientPlain c s i k t = decision (toldNumber c s i k t) 0 (clientOutcome s i k t) (clientFlag c t) 0
 
--- what is weighed of a session, as the table knows it
+-- what is weighed of a session, as the code has it
+abbrev pub weighedIn : Weighed → Original
+weighedIn w = record { ems = yes (w .ems); suite = w .suite }
+
+-- and as the table knows it
 abbrev pub originalIn : Known → Option Original
 originalIn known.Nothing = none
-originalIn known.WithoutEms = some (record { ems = false })
-originalIn known.WithEms = some (record { ems = true })
+originalIn (known.Found w) = some (weighedIn w)
 
 -- the session of a hello, as some book has it and as the book that t keeps has it
 pub record SessionIs (t : Table) (axle : ℕ) (r : Reading) (k : Known) : Type 0 where

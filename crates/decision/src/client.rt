@@ -10,26 +10,29 @@ use crate::outcome::refused;
 use hello::ServerHello;
 use hello::ServerRead;
 use refusal::refuse;
+use sessions::Weighed;
 ghost use mathlib.Core.Path.{_≡_};
-ghost use mathlib.Core.Bool.{Bool};
+ghost use mathlib.Core.Bool.{not, _&&_};
 ghost use mathlib.Core.List.{List};
 ghost use Prim.Native.Nat.{ℕ};
+ghost use lib.Dec.{eqb};
 ghost use Rattle.hello.specs.Fields.{readServer};
-ghost use Rattle.decision.specs.Client.{Told, told, lentOf, lentEms, badOffer, clientResumes, clientDecision};
-ghost use Rattle.decision.specs.Steps.{riOf, toldOf, clientPlain, ServerWas};
+ghost use Rattle.decision.specs.Server.{Original};
+ghost use Rattle.decision.specs.Client.{Told, told, lentOf, weighedOf, badOffer, clientResumes, clientDecision};
+ghost use Rattle.decision.specs.Steps.{riOf, toldOf, weighedIn, clientPlain, ServerWas};
 
-// On a ServerHello, for the identifier that was offered, empty if none was. Where `lent` says so, `identifier` and `session_ems` are
+// On a ServerHello, for the identifier that was offered, empty if none was. Where `lent` says so, `identifier` and `session` are
 // those of the session that is offered.
 pub fn decide_client(
     message: &[u8],
     offered: &[u8],
     lent: bool,
     identifier: &[u8],
-    session_ems: bool,
+    session: Weighed,
     connection: Connection,
     switches: Switches,
 ) -> Decision
-    ensures { λ r. ⌜ r ≡ clientDecision (readServer (now (message .entry))) (now (offered .entry)) (lentOf lent (now (identifier .entry)) «session_ems») connection switches ⌝ }
+    ensures { λ r. ⌜ r ≡ clientDecision (readServer (now (message .entry))) (now (offered .entry)) (lentOf lent (now (identifier .entry)) (weighedIn session)) connection switches ⌝ }
 {
     if bad_offer(offered, lent, identifier) {
         return refused(refuse(11));
@@ -42,7 +45,7 @@ pub fn decide_client(
         message,
         hello,
         offered,
-        ems_of(lent, session_ems),
+        lent_session(lent, session),
         connection,
         switches,
     )
@@ -50,7 +53,7 @@ pub fn decide_client(
 
 // More than 32 bytes, or an identifier that no lent session bears.
 fn bad_offer(offered: &[u8], lent: bool, identifier: &[u8]) -> bool
-    ensures { λ r. ⌜ ((ems : Bool) → r ≡ badOffer (now (offered .entry)) (lentOf lent (now (identifier .entry)) ems)) ⌝ }
+    ensures { λ r. ⌜ ((k : Original) → r ≡ badOffer (now (offered .entry)) (lentOf lent (now (identifier .entry)) k)) ⌝ }
 {
     if 32 < offered.len() {
         return true;
@@ -64,13 +67,14 @@ fn bad_offer(offered: &[u8], lent: bool, identifier: &[u8]) -> bool
     true
 }
 
-fn ems_of(lent: bool, ems: bool) -> bool
-    ensures { λ r. ⌜ ((i : List ℕ) → r ≡ lentEms (lentOf lent i ems)) ⌝ }
+// Where none is lent there is nothing to weigh.
+fn lent_session(lent: bool, session: Weighed) -> Weighed
+    ensures { λ r. ⌜ ((i : List ℕ) → weighedIn r ≡ weighedOf (lentOf lent i (weighedIn session))) ⌝ }
 {
     if lent {
-        return ems;
+        return session;
     }
-    false
+    Weighed { ems: 0, suite: 0 }
 }
 
 // The server names the identifier that was offered.
@@ -83,17 +87,27 @@ fn names(identifier: &[u8], offered: &[u8]) -> bool
     octets::same(identifier, offered)
 }
 
+// Where it resumes, the suite that it names must be the session's.
+fn differs(resumes: bool, suite: u16, original: u16) -> bool
+    ensures { λ r. ⌜ r ≡ (resumes && not (eqb suite original)) ⌝ }
+{
+    if resumes {
+        return suite != original;
+    }
+    false
+}
+
 // On a ServerHello that was read.
 fn judge_server_hello(
     message: &[u8],
     hello: ServerHello,
     offered: &[u8],
-    session_ems: bool,
+    session: Weighed,
     connection: Connection,
     switches: Switches,
 ) -> Decision
     requires { ⌜ ServerWas (now message) hello ⌝ }
-    ensures { λ r. ⌜ r ≡ clientPlain connection switches (now (offered .entry)) «session_ems» (told (readServer (now (message .entry)))) ⌝ }
+    ensures { λ r. ⌜ r ≡ clientPlain connection switches (now (offered .entry)) (weighedIn session) (told (readServer (now (message .entry)))) ⌝ }
 {
     let extensions = hello.extensions;
     let indication = extensions.indication;
@@ -104,12 +118,13 @@ fn judge_server_hello(
     let to = from + identifier.length;
     judge_told(
         &message[from..to],
+        hello.suite,
         extensions.indicated != 0,
         &message[at..end],
         extensions.ems != 0,
         extensions.others != 0,
         offered,
-        session_ems,
+        session,
         connection,
         switches,
     )
@@ -118,16 +133,17 @@ fn judge_server_hello(
 // On what a ServerHello tells.
 fn judge_told(
     identifier: &[u8],
+    suite: u16,
     indicated: bool,
     indication: &[u8],
     ems: bool,
     others: bool,
     offered: &[u8],
-    session_ems: bool,
+    session: Weighed,
     connection: Connection,
     switches: Switches,
 ) -> Decision
-    ensures { λ r. ⌜ r ≡ clientPlain connection switches (now (offered .entry)) «session_ems» (toldOf (now (identifier .entry)) (riOf indicated (now (indication .entry))) ems others) ⌝ }
+    ensures { λ r. ⌜ r ≡ clientPlain connection switches (now (offered .entry)) (weighedIn session) (toldOf (now (identifier .entry)) suite (riOf indicated (now (indication .entry))) ems others) ⌝ }
 {
     if others {
         return refused(refuse(4));
@@ -137,7 +153,10 @@ fn judge_told(
         return refused(refuse(number));
     }
     let resumes = names(identifier, offered);
-    let outcome = client_outcome(resumes, session_ems, ems, switches);
+    if differs(resumes, suite, session.suite) {
+        return refused(refuse(12));
+    }
+    let outcome = client_outcome(resumes, session.ems != 0, ems, switches);
     let flag = flag_of(false, indicated, connection);
     decided(outcome, flag, 0)
 }

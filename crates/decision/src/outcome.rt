@@ -29,9 +29,17 @@ pub(crate) fn server_outcome(session: Known, ems: bool, switches: Switches) -> R
 {
     match session {
         Known::Nothing => full(ems, switches),
-        Known::WithoutEms => original_without(ems, switches),
-        Known::WithEms => original_with(ems),
+        Known::Found(original) => resumable(original.ems != 0, ems, switches),
     }
+}
+
+fn resumable(original_ems: bool, ems: bool, switches: Switches) -> Reached
+    ensures { λ r. ⌜ outcomeIn r ≡ resumable switches «original_ems» ems ⌝ }
+{
+    if original_ems {
+        return original_with(ems);
+    }
+    original_without(ems, switches)
 }
 
 // Of a session without EMS: a hello with EMS makes a new one.

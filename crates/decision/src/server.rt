@@ -18,7 +18,7 @@ use sessions::Table;
 ghost use mathlib.Core.Path.{_≡_};
 ghost use Rattle.sessions.specs.Book.{badAxle};
 ghost use Rattle.hello.specs.Fields.{readClient};
-ghost use Rattle.decision.specs.Server.{asked, ServerDecides};
+ghost use Rattle.decision.specs.Server.{asked, onOffer, ServerDecides};
 ghost use Rattle.decision.specs.Steps.{riOf, askedOf, ClientWas, Plain, originalIn, SessionIs};
 
 // On a ClientHello of an axle, whose session is looked up in the table. The reply's extensions go to the front of `out`.
@@ -52,7 +52,7 @@ fn is_bad(axle: u8) -> bool
     6 < axle
 }
 
-// An identifier that is not empty is looked up.
+// An identifier that is not empty is looked up; the session found must be on offer.
 fn session_of(message: &[u8], hello: ClientHello, axle: u8, table: Table) -> Known
     requires { ⌜ ClientWas (now message) hello ⌝ }
     ensures { λ r. ⌜ SessionIs table axle (readClient (now (message .entry))) r ⌝ }
@@ -64,7 +64,24 @@ fn session_of(message: &[u8], hello: ClientHello, axle: u8, table: Table) -> Kno
         return Known::Nothing;
     }
     let end = at + length;
-    table.known(axle, &message[at..end])
+    let known = table.known(axle, &message[at..end]);
+    let suites = hello.suites;
+    let from = suites.at;
+    let to = from + suites.length;
+    on_offer(known, &message[from..to])
+}
+
+// A session whose suite is not listed counts as none.
+fn on_offer(session: Known, suites: &[u8]) -> Known
+    ensures { λ r. ⌜ originalIn r ≡ onOffer (now (suites .entry)) (originalIn session) ⌝ }
+{
+    let Known::Found(original) = session else {
+        return Known::Nothing;
+    };
+    if hello::lists_suite(suites, original.suite) {
+        return session;
+    }
+    Known::Nothing
 }
 
 // On a ClientHello that was read.

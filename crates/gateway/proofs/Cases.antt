@@ -13,11 +13,11 @@ use Rattle.message.specs.Numbers.{byteAt, pairAt, tripleAt}
 use Rattle.message.specs.Frame.{kindOf, bodyOf, overlong, cutOff, misstated, otherKind}
 use Rattle.hello.specs.Layout.{big, field, counted, vector}
 use Rattle.hello.specs.Extensions.{shaped, extension, listOf, extensionsOf, has, twice, contentOf, indicationOf}
-use Rattle.hello.specs.Fields.{opening, closing, clientLayout, serverLayout, signalIn, helloFault, readClient, readServer}
+use Rattle.hello.specs.Fields.{opening, closing, clientLayout, serverLayout, lists, helloFault, readClient, readServer}
 use Rattle.hello.specs.Written.{writtenList, writtenBlock}
 use Rattle.decision.specs.Connection.{closed, wrongFirst, decided, decision}
 use Rattle.decision.specs.Reply.{replyList, replyOf}
-use Rattle.decision.specs.Server.{serverWrong, serverFlag, resumable, serverOutcome, serverReply, serverNumber, serverDecision}
+use Rattle.decision.specs.Server.{onOffer, sessionIn, serverWrong, serverFlag, resumable, serverOutcome, serverReply, serverNumber, serverDecision}
 use Rattle.log.specs.Order.{turns, isDue, look, finishedDue}
 use Rattle.log.specs.History.{tells, placeOf, hashed}
 use Rattle.log.specs.Calls.{wrongBody, misshapen, outOfTurn, isFinished, acceptNumber, afterAccept}
@@ -40,7 +40,7 @@ fed-finished true resumes value e = rw e
 fed-finished false resumes value e = rw e
 
 pub cases : Cases
-unfolding firstOf firstFault refusalOf refusalAt same byteAt pairAt tripleAt kindOf bodyOf overlong cutOff misstated otherKind big field counted vector shaped extension listOf extensionsOf has twice contentOf indicationOf opening closing clientLayout signalIn helloFault readClient writtenList writtenBlock closed wrongFirst decided decision replyList replyOf serverWrong serverFlag resumable serverOutcome serverReply serverNumber serverDecision turns isDue look finishedDue tells placeOf hashed wrongBody misshapen outOfTurn isFinished acceptNumber afterAccept expectedNumber finishNumber book.many book.oldest book.strike book.isOf book.isName book.isNamed book.fuller book.fullest book.struck book.written book.badAxle book.badName book.badSecret book.storeNumber book.after book.bookFrom numbersFrom heldBy
+unfolding firstOf firstFault refusalOf refusalAt same byteAt pairAt tripleAt kindOf bodyOf overlong cutOff misstated otherKind big field counted vector shaped extension listOf extensionsOf has twice contentOf indicationOf opening closing clientLayout lists helloFault readClient writtenList writtenBlock closed wrongFirst decided decision replyList replyOf onOffer sessionIn serverWrong serverFlag resumable serverOutcome serverReply serverNumber serverDecision turns isDue look finishedDue tells placeOf hashed wrongBody misshapen outOfTurn isFinished acceptNumber afterAccept expectedNumber finishNumber book.many book.oldest book.strike book.isOf book.isName book.isNamed book.fuller book.fullest book.struck book.written book.badAxle book.badName book.badSecret book.storeNumber book.after book.bookFrom numbersFrom heldBy
 cases =
     record {
       empty-ri = refl;

@@ -14,7 +14,7 @@ use Rattle.hello.specs.Places.{clientAnswer, serverAnswer}
 use Rattle.sessions.specs.Book.{badAxle}
 use Rattle.decision.specs.Connection.{Outcome, refusedBy, decision}
 use Rattle.decision.specs.Server.{Original, asked, faultPlace, sessionIn, serverTests, serverNumber, serverDecision}
-use Rattle.decision.specs.Client.{Lent, lentEms, told, badOffer, clientTests, clientNumber, clientDecision}
+use Rattle.decision.specs.Client.{Lent, weighedOf, told, badOffer, clientTests, clientNumber, clientDecision}
 use Rattle.decision.specs.declared.connection.Connection.{Connection}
 use Rattle.decision.specs.declared.connection.Switches.{Switches}
 use Rattle.decision.specs.declared.connection.Decision.{Decision}
@@ -48,7 +48,7 @@ server-number axle (fault n p) k c s out y =
 client-number : (x : Reading) (i : List ℕ) (l : Option Lent) (c : Connection) (s : Switches) → placed (clientNumber x i l c s) ≡ true
     → (n : ℕ) × (p : ℕ) × (x ≡ fault n p) × (clientNumber x i l c s ≡ n)
 unfolding clientNumber firstOf
-client-number (fields h) i l c s y = not-both y (first-unplaced ((11, badOffer i l) ∷ (0, false) ∷ clientTests c s i (lentEms l) (told (fields h))) refl)
+client-number (fields h) i l c s y = not-both y (first-unplaced ((11, badOffer i l) ∷ (0, false) ∷ clientTests c s i (weighedOf l) (told (fields h))) refl)
 client-number (fault n p) i l c s y =
     by-test (badOffer i l)
     (λ b. not-both y (rw b))

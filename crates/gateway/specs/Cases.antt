@@ -13,12 +13,13 @@ use Rattle.hello.specs.Layout.{Parse, Left}
 use Rattle.hello.specs.Layout.Parse.{malformed, parsed}
 use Rattle.hello.specs.Extensions.{Extension, extensionsOf, indicationOf, emsOf}
 use Rattle.hello.specs.Fields.{Hello, fields, fault, readClient, readServer}
-use Rattle.sessions.specs.Book.{Call, store, empty, bookFrom, sought}
+use Rattle.sessions.specs.Book.{Book, Call, store, empty, bookFrom, sought}
 use Rattle.sessions.specs.Book as book
 use Rattle.decision.specs.Connection.{fullEms, decided}
-use Rattle.decision.specs.Server.{serverNumber, serverDecision}
+use Rattle.decision.specs.Server.{sessionIn, serverNumber, serverDecision}
 use Rattle.decision.specs.declared.connection.Connection.{Connection}
 use Rattle.decision.specs.declared.connection.Switches.{Switches}
+use Rattle.decision.specs.declared.connection.Decision.{Decision}
 use Rattle.log.specs.History.{History, hashed}
 use Rattle.log.specs.History.History.{fresh}
 use Rattle.log.specs.Calls.{acceptNumber, afterAccept}
@@ -71,7 +72,7 @@ pub record SmallestHellos : Type 0 where
 
 -- ---- the server's decision
 
--- a ClientHello that names a session: 03 03, a random, the identifier 07, one suite, one method, and then the block
+-- a ClientHello that names a session: 03 03, a random, the identifier 07, one suite, 00 2f, one method, and then the block
 abbrev pub hello : List ℕ → List ℕ
 hello block = message 1 ((3 ∷ 3 ∷ []) ++ replicate 32 0 ++ (1 ∷ 7 ∷ 0 ∷ 2 ∷ 0 ∷ 47 ∷ 1 ∷ 0 ∷ []) ++ block)
 
@@ -95,6 +96,17 @@ legacy x = record { «indication_required» = 0; «legacy_full» = x; «legacy_r
 abbrev pub room : List ℕ
 room = replicate 35 0
 
+-- axle 1 has that session, with EMS or not; its suite is the one that the hello lists (order 2)
+abbrev pub kept : Bool → Book
+kept e = record { axle = 1; identifier = 7 ∷ []; ems = e; suite = 47; secret = replicate 48 0 } ∷ []
+
+-- number and decision on a hello of that axle, where the book is b
+abbrev pub numberOn : List ℕ → Book → Connection → Switches → ℕ
+numberOn m b c s = serverNumber 1 (readClient m) (sessionIn 1 (readClient m) b) c s room
+
+abbrev pub decisionOn : List ℕ → Book → Connection → Switches → Decision
+decisionOn m b c s = serverDecision 1 (readClient m) (sessionIn 1 (readClient m) b) c s room
+
 -- ---- the log
 
 -- the numbers of messages that are fed one after the other to the accepting call, from fresh, never told of resuming
@@ -111,7 +123,7 @@ greeted resumes = afterAccept (afterAccept fresh (message 1 []) false) (message 
 -- n stores of an axle, each under an identifier of its own: from, from + 1, ..
 abbrev pub stores : ℕ → ℕ → ℕ → List Call
 stores axle from zero = []
-stores axle from (suc n) = store (record { axle = axle; identifier = from ∷ []; ems = true; secret = replicate 48 0 }) ∷ stores axle (from + 1) n
+stores axle from (suc n) = store (record { axle = axle; identifier = from ∷ []; ems = true; suite = 47; secret = replicate 48 0 }) ∷ stores axle (from + 1) n
 
 -- what axles 1 to 6 hold after these calls, from empty
 unfoldable pub heldBy : List Call → List ℕ
@@ -134,12 +146,12 @@ pub record Cases : Type 0 where
   pub ems-with-data : extensionsOf (alone (0x00 ∷ 0x17 ∷ 0x00 ∷ 0x01 ∷ 0x00 ∷ [])) ≡ malformed 4
   pub smallest-hellos : SmallestHellos
   -- 'session with EMS, hello without: 6.' With RI whatever the switches are; without, where the indication is not required.
-  pub ems-lost : (s : Switches) → serverNumber 1 (readClient riHello) (some (record { ems = true })) (connection 0 0) s room ≡ 6
-  pub ems-lost-bare : (x : ℕ) → serverNumber 1 (readClient bareHello) (some (record { ems = true })) (connection 0 0) (legacy x) room ≡ 6
+  pub ems-lost : (s : Switches) → numberOn riHello (kept true) (connection 0 0) s ≡ 6
+  pub ems-lost-bare : (x : ℕ) → numberOn bareHello (kept true) (connection 0 0) (legacy x) ≡ 6
   -- 'without, hello with: full.' With EMS, and 6 bytes of reply.
-  pub ems-new : serverDecision 1 (readClient emsHello) (some (record { ems = false })) (connection 0 0) (legacy 0) room ≡ decided fullEms false 6
+  pub ems-new : decisionOn emsHello (kept false) (connection 0 0) (legacy 0) ≡ decided fullEms false 6
   -- 'later handshake, flag clear: 9.'
-  pub flag-clear : serverNumber 1 (readClient emsHello) none (connection 1 0) (legacy 1) room ≡ 9
+  pub flag-clear : numberOn emsHello empty (connection 1 0) (legacy 1) ≡ 9
   -- 'log 1, 2, 20 not told it resumes: 7 at the third': by order 6's joined call, whatever the secret and whatever the value.
   pub early-greeted : numbersFrom fresh (message 1 [] ∷ message 2 [] ∷ []) ≡ 0 ∷ 0 ∷ []
   pub early-finished : (secret value : List ℕ) → length secret ≡ 48 → length value ≡ 12

@@ -9,6 +9,7 @@ use decision::Connection;
 use decision::Decision;
 use decision::Switches;
 use sessions::Table;
+use sessions::Weighed;
 
 #[no_mangle]
 pub extern "C" fn axle_connection_fresh() -> Connection
@@ -38,17 +39,18 @@ pub extern "C" fn axle_decide_client(
     session: u8,
     identifier: &[u8],
     ems: u8,
+    suite: u16,
     connection: Connection,
     switches: Switches,
 ) -> Decision
-    ensures { λ r. ⌜ r ≡ clientDecision (readServer (now (message .entry))) (now (offered .entry)) (lentOf (yes session) (now (identifier .entry)) (yes ems)) connection switches ⌝ }
+    ensures { λ r. ⌜ r ≡ clientDecision (readServer (now (message .entry))) (now (offered .entry)) (lentOf (yes session) (now (identifier .entry)) (record { ems = yes ems; suite = suite })) connection switches ⌝ }
 {
     decision::decide_client(
         message,
         offered,
         session != 0,
         identifier,
-        ems != 0,
+        Weighed { ems, suite },
         connection,
         switches,
     )

@@ -22,11 +22,12 @@ pub extern "C" fn axle_table_store(
     axle: u8,
     identifier: &[u8],
     ems: u8,
+    suite: u16,
     secret: &[u8],
 ) -> Stored
-    ensures { λ r. ⌜ Stores table (record { axle = axle; identifier = now (identifier .entry); ems = yes ems; secret = now (secret .entry) }) r ⌝ }
+    ensures { λ r. ⌜ Stores table (record { axle = axle; identifier = now (identifier .entry); ems = yes ems; suite = suite; secret = now (secret .entry) }) r ⌝ }
 {
-    table.store(axle, identifier, ems != 0, secret)
+    table.store(axle, identifier, ems != 0, suite, secret)
 }
 
 #[no_mangle]

@@ -3,7 +3,7 @@
 use mathlib.Core.Path.{_≡_, refl, sym, _∙_, ap, ap₂}
 use mathlib.Core.Bool.{Bool, false, _||_}
 use mathlib.Core.List.{List, [], _∷_}
-use Prim.Native.Nat.{ℕ, zero, suc, _+_, _-_, _%_, _≤_, _<_}
+use Prim.Native.Nat.{ℕ, _+_, _-_, _%_, _≤_, _<_}
 use native.Mathlib.Nat.{add-zero}
 use native.Mathlib.Omega.{arith}
 use lib.Dec.{leb, eqb}
@@ -17,7 +17,7 @@ use Rattle.refusal.specs.declared.Refusal.{Refusal}
 use Rattle.message.specs.Numbers.{byteAt, pairAt}
 use Rattle.hello.specs.Layout.{Parse, malformed, Left, from, big, field, vector}
 use Rattle.hello.specs.Extensions.{Extension}
-use Rattle.hello.specs.Fields.{Hello, opening, listPlace, clientLayout, serverLayout, signalIn}
+use Rattle.hello.specs.Fields.{Hello, opening, listPlace, clientLayout, serverLayout, lists, signalIn}
 use Rattle.hello.specs.Places.{part, behind, extensionsAt, clientPlaces, serverPlaces}
 use Rattle.hello.specs.Cuts.{Cuts, Opens, Blocks, Broken, ClientLays, ServerLays, listAt}
 use Rattle.hello.specs.declared.parts.Part.{Part}
@@ -55,25 +55,24 @@ module _ (m : List ℕ) (start : ℕ) (k : start ≤ length m) where
   opens-then (cut.Malformed p) h v = λ then. opened then h ∙ v _
   opens-then (cut.Taken p) h v = (omega (arith, v .0), v .1, λ then. opened then h ∙ v .2 _)
 
--- the signal is a whole suite, two bytes
-signal-cons : (k : ℕ) (l : List ℕ) → 2 ≤ k → k ≤ length l → signalIn (take k l) ≡ (eqb (pairAt l 0) 255 || signalIn (take (k - 2) (drop 2 l)))
-unfolding signalIn pairAt byteAt
-signal-cons zero l h n = absurd (omega arith)
-signal-cons (suc zero) l h n = absurd (omega arith)
-signal-cons (suc (suc k)) [] h n = absurd (omega arith)
-signal-cons (suc (suc k)) (a ∷ []) h n = absurd (omega arith)
-signal-cons (suc (suc k)) (a ∷ b ∷ l) h n = let e : suc (suc k) - 2 ≡ k = omega arith in rw e
+-- a suite is two bytes
+lists-cons : (suite : ℕ) (l : List ℕ) → 2 ≤ length l → lists suite l ≡ (eqb (pairAt l 0) suite || lists suite (drop 2 l))
+unfolding lists pairAt byteAt
+lists-cons suite [] h = absurd (omega arith)
+lists-cons suite (a ∷ []) h = absurd (omega arith)
+lists-cons suite (a ∷ b ∷ l) h = refl
 
-pub signal-step : (m : List ℕ) (i k : ℕ) → 2 ≤ k → i + k ≤ length m
-    → signalIn (take k (drop i m)) ≡ (eqb (pairAt m i) 255 || signalIn (take (k - 2) (drop (i + 2) m)))
-signal-step m i k h l = signal-cons k (drop i m) h (rw length-drop (omega arith)) ∙ (rw (pair-drop, add-zero, drop-drop))
+pub lists-step : (suite : ℕ) (l : List ℕ) (i : ℕ) → i + 2 ≤ length l → lists suite (drop i l) ≡ (eqb (pairAt l i) suite || lists suite (drop (i + 2) l))
+lists-step suite l i h = lists-cons suite (drop i l) (rw length-drop (omega arith)) ∙ (rw (pair-drop, add-zero, drop-drop))
 
-pub signal-end : (k : ℕ) (l : List ℕ) → k < 2 → signalIn (take k l) ≡ false
-unfolding signalIn
-signal-end zero l h = refl
-signal-end (suc zero) [] h = refl
-signal-end (suc zero) (a ∷ l) h = refl
-signal-end (suc (suc k)) l h = absurd (omega arith)
+short-lists : (suite : ℕ) (l : List ℕ) → length l < 2 → lists suite l ≡ false
+unfolding lists
+short-lists suite [] h = refl
+short-lists suite (a ∷ []) h = refl
+short-lists suite (a ∷ b ∷ l) h = absurd (omega arith)
+
+pub lists-end : (suite : ℕ) (l : List ℕ) (i : ℕ) → length l - i < 2 → lists suite (drop i l) ≡ false
+lists-end suite l i h = short-lists suite (drop i l) (rw length-drop h)
 
 part-is : (p : Part) (a n : ℕ) → p .at ≡ a → p .length ≡ n → p ≡ part a n
 part-is p a n h k = ap₂ part h k

@@ -71,12 +71,16 @@ serverLayout body =
     (λ block extensions.
     parsed (record { version = big version; random = random; identifier = identifier; suites = suites; methods = methods; block = block; extensions = extensions })))))
 
+-- the suite is in the list of suites, as one whole suite: 'uint8 CipherSuite[2]' (RFC 5246, section 7.4.1.2)
+unfoldable pub lists : ℕ → List ℕ → Bool
+lists suite [] = false
+lists suite (a ∷ []) = false
+lists suite (a ∷ b ∷ rest) = eqb (256 * a + b) suite || lists suite rest
+
 -- 'Which suites and methods appear isn't judged, but for 00 ff in a ClientHello, the signal': TLS_EMPTY_RENEGOTIATION_INFO_SCSV of
--- RFC 5746, as one whole suite
-unfoldable pub signalIn : List ℕ → Bool
-signalIn [] = false
-signalIn (a ∷ []) = false
-signalIn (a ∷ b ∷ rest) = eqb (256 * a + b) 255 || signalIn rest
+-- RFC 5746
+abbrev pub signalIn : List ℕ → Bool
+signalIn suites = lists 255 suites
 
 -- where the fields of a body that begins at place start stand, by the lengths of those before them: the identifier behind version, random
 -- and its own length, suites and methods of a ClientHello behind theirs

@@ -9,6 +9,7 @@ use crate::layout::vector16;
 use crate::parts::Extensions;
 use crate::parts::Part;
 use crate::parts::flag;
+use crate::suites::lists_suite;
 use crate::walk::repeat;
 use message::Framed;
 use message::pair;
@@ -16,9 +17,9 @@ use refusal::Refusal;
 use refusal::refuse;
 use refusal::refuse_at;
 ghost use mathlib.Core.Path.{_≡_};
-ghost use Prim.Native.Nat.{_+_, _≤_};
-ghost use lib.ListN.{take, drop};
-ghost use Rattle.hello.specs.Fields.{signalIn, readClient};
+ghost use Prim.Native.Nat.{_≤_};
+ghost use lib.ListN.{length};
+ghost use Rattle.hello.specs.Fields.{readClient};
 ghost use Rattle.hello.specs.Places.{clientAnswer, clientRefusal};
 ghost use Rattle.hello.specs.Cuts.{ClientLays};
 
@@ -58,7 +59,7 @@ const CLIENT_HELLO: u8 = 1;
 const LOWEST: u16 = 771;
 
 // TLS_EMPTY_RENEGOTIATION_INFO_SCSV, 00 ff
-const SIGNAL: usize = 255;
+const SIGNAL: u16 = 255;
 
 pub fn read_client_hello(message: &[u8]) -> ClientRead
     ensures { λ r. ⌜ r ≡ clientAnswer (readClient (now (message .entry))) ⌝ }
@@ -85,7 +86,7 @@ pub fn read_client_hello(message: &[u8]) -> ClientRead
 
 // The fields, in their order, of a body that begins at place `start`.
 fn lay_client(message: &[u8], start: usize) -> ClientRead
-    requires { ⌜ start ≤ lib.ListN.length (now message) ⌝ }
+    requires { ⌜ start ≤ length (now message) ⌝ }
     ensures { λ r. ⌜ ClientLays (now (message .entry)) start r ⌝ }
 {
     let cut = opening(message, start);
@@ -104,6 +105,9 @@ fn lay_client(message: &[u8], start: usize) -> ClientRead
     let Cut::Taken(methods) = cut else {
         return ClientRead::Refused(refuse_at(1, cut.place()));
     };
+    let from = suites.at;
+    let to = from + suites.length;
+    let signal = flag(lists_suite(&message[from..to], SIGNAL));
     match read_block(message, methods.at + methods.length) {
         Block::Malformed(place) => ClientRead::Refused(refuse_at(1, place)),
         Block::Read(extensions) => ClientRead::Read(ClientHello {
@@ -115,24 +119,8 @@ fn lay_client(message: &[u8], start: usize) -> ClientRead
             identifier,
             suites,
             methods,
-            signal: flag(signalled(message, suites.at, suites.length)),
+            signal,
             extensions,
         }),
     }
-}
-
-// The signal is a whole suite, two bytes.
-fn signalled(message: &[u8], at: usize, length: usize) -> bool
-    requires { ⌜ at + length ≤ lib.ListN.length (now message) ⌝ }
-    ensures { λ r. ⌜ r ≡ signalIn (take length (drop at (now (message .entry)))) ⌝ }
-{
-    let end = at + length;
-    let mut i = at;
-    while 2 <= end - i {
-        if pair(message, i) == SIGNAL {
-            return true;
-        }
-        i += 2;
-    }
-    false
 }

@@ -6,6 +6,7 @@ mod layout;
 mod next;
 mod parts;
 mod server;
+mod suites;
 mod walk;
 
 pub use client::ClientHello;
@@ -18,4 +19,5 @@ pub use parts::Part;
 pub use server::ServerHello;
 pub use server::ServerRead;
 pub use server::read_server_hello;
+pub use suites::lists_suite;
 pub use walk::well_shaped;

@@ -10,7 +10,7 @@ use Rattle.message.specs.Numbers.{byteAt, pairAt, tripleAt}
 use Rattle.message.specs.Frame.{kindOf, bodyOf, overlong, cutOff, misstated, otherKind, headerPlace}
 use Rattle.hello.specs.Layout.{big, field, counted, vector}
 use Rattle.hello.specs.Extensions.{shaped, extension, listOf, extensionsOf, has, twice, repeatFrom, contentOf, indicationOf}
-use Rattle.hello.specs.Fields.{opening, closing, clientLayout, signalIn, helloFault, readClient}
+use Rattle.hello.specs.Fields.{opening, closing, clientLayout, lists, helloFault, readClient}
 use Rattle.sessions.specs.Book.{badAxle}
 use Rattle.decision.specs.Connection.{closed, wrongFirst, refusedBy, decision}
 use Rattle.decision.specs.Server.{sessionIn, serverWrong, serverOutcome, serverNumber, serverDecision}
@@ -63,5 +63,5 @@ repeated = refl
 
 -- neither EMS nor a legacy handshake allowed: 6, which has no place
 forbidden : listing ((1 ∷ 0 ∷ 45 ∷ []) ++ helloWith 41 []) ≡ ascii "message type log hello\n1 1 0 6\n"
-unfolding firstOf firstFault refusalAt byteAt pairAt tripleAt kindOf bodyOf overlong cutOff misstated otherKind big field counted vector has twice contentOf indicationOf opening closing clientLayout signalIn helloFault readClient badAxle closed wrongFirst refusedBy decision sessionIn serverWrong serverOutcome serverNumber serverDecision turns isDue placeOf wrongBody misshapen outOfTurn isFinished acceptNumber countOf lengthsIn lengthsOf contentsSize partsOf bodiesOf total goodCase ascii digits decimal header answered columnOf printed kindColumn decisionOn decisionRefusal helloColumn logNumber logRefusal lineFor lines listing
+unfolding firstOf firstFault refusalAt byteAt pairAt tripleAt kindOf bodyOf overlong cutOff misstated otherKind big field counted vector has twice contentOf indicationOf opening closing clientLayout lists helloFault readClient badAxle closed wrongFirst refusedBy decision sessionIn serverWrong serverOutcome serverNumber serverDecision turns isDue placeOf wrongBody misshapen outOfTurn isFinished acceptNumber countOf lengthsIn lengthsOf contentsSize partsOf bodiesOf total goodCase ascii digits decimal header answered columnOf printed kindColumn decisionOn decisionRefusal helloColumn logNumber logRefusal lineFor lines listing
 forbidden = refl

@@ -13,7 +13,7 @@ fn main() {
     let n = read.length;
     let mut out = io::large_buffer();
     script::replay(&input[..n], &mut out);
-    let size = 68 * (n / 112);
+    let size = 70 * (n / 112);
     if !io::write_all(STDOUT_FILENO, &out[..size]) {
         os::fail(b"replay: standard output");
     }

@@ -1,7 +1,7 @@
 -- A script, one call more: the calls, the book, the answers and their bytes; and each call's promise, as a step.
 -- Assumes nothing.
 use mathlib.Core.Path.{_≡_, refl, sym, _∙_, ap}
-use mathlib.Core.Bool.{Bool, true, false}
+use mathlib.Core.Bool.{true, false}
 use mathlib.Core.List.{List, [], _∷_, _++_, append-assoc, append-nil}
 use mathlib.Core.Logic.{⊎-elim}
 use mathlib.Core.Option.{Option, none, some}
@@ -18,7 +18,7 @@ use Rattle.seqs.specs.Tab.{tab}
 use Rattle.octets.specs.Put.{putList, putNumber}
 use Rattle.sessions.specs.Book.{Session, Book, Call, store, lookUp, withdraw, held, clear, Answer, there, sought, granted, handed, empty, answer, after, answersFrom, bookFrom, storeNumber, lookUpNumber, withdrawNumber, heldNumber}
 use Rattle.sessions.specs.Keeps.{Keeps}
-use Rattle.sessions.specs.Promises.{Stores, LooksUp, Withdraws, CountsHeld, Clears, withEms, lookedOf, outputOf, withdrawnOf, heldOf}
+use Rattle.sessions.specs.Promises.{Stores, LooksUp, Withdraws, CountsHeld, Clears, withEms, suiteOf, lookedOf, outputOf, withdrawnOf, heldOf}
 use Rattle.sessions.specs.declared.table.Table.{Table}
 use Rattle.sessions.specs.declared.calls.Stored.{Stored}
 use Rattle.sessions.specs.declared.calls.Looked.{Looked}
@@ -27,7 +27,7 @@ use Rattle.sessions.specs.declared.calls.Held.{Held}
 use Rattle.sessions.specs.declared.calls.Cleared.{Cleared}
 use Rattle.refusal.specs.Listed.{row-number}
 use Rattle.seqs.specs.Cases.{which}
-use Rattle.script.specs.Script.{identifierIn, lentIn, callOf, callAt, callsIn, reply, replyOf, repliesOf, replies}
+use Rattle.script.specs.Script.{identifierIn, suiteIn, lentIn, callOf, callAt, callsIn, reply, replyOf, repliesOf, replies}
 use Rattle.script.specs.Steps.{Steps}
 
 -- ---- one call more
@@ -63,22 +63,22 @@ handed-length out (some s) = put-length out (s .secret)
 granted-length : (n : ℕ) (x out : List ℕ) → length x ≡ length out → length (granted n x out) ≡ length out
 granted-length n x out e = ⊎-elim (λ (y : eqb n 0 ≡ true). rw y e) (λ (y : eqb n 0 ≡ false). rw y) (which (eqb n 0))
 
-reply-length : (n f e k : ℕ) (out : List ℕ) → length out ≤ 64 → length (reply n f e k out) ≡ 68
-reply-length n f e k out h = rw (length-append, length-replicate) (omega arith)
+reply-length : (n f e k s : ℕ) (out : List ℕ) → length out ≤ 64 → length (reply n f e k s out) ≡ 70
+reply-length n f e k s out h = rw (length-append, length-replicate) (omega arith)
 
-looked-length : (b : Book) (a : ℕ) (i out : List ℕ) → length out ≤ 64 → length (replyOf (answer b (lookUp a i out))) ≡ 68
+looked-length : (b : Book) (a : ℕ) (i out : List ℕ) → length out ≤ 64 → length (replyOf (answer b (lookUp a i out))) ≡ 70
 unfolding answer replyOf
 looked-length b a i out h =
     let n = lookUpNumber a i out b in
     let x = granted n (handed out (sought a i b)) out in
     let e : length x ≡ length out = granted-length n (handed out (sought a i b)) out (handed-length out (sought a i b)) in
-    reply-length 0 0 0 0 x (omega arith)
+    reply-length 0 0 0 0 0 x (omega arith)
 
 lent-length : (e : List ℕ) → length (lentIn e) ≤ 64
 lent-length e = rw length-take (omega arith)
 
--- an answer to a call of a script has 68 bytes
-pub call-length : (b : Book) (e : List ℕ) → length (replyOf (answer b (callOf e))) ≡ 68
+-- an answer to a call of a script has 70 bytes
+pub call-length : (b : Book) (e : List ℕ) → length (replyOf (answer b (callOf e))) ≡ 70
 unfolding answer replyOf callOf
 call-length b e =
     ⊎-elim
@@ -115,7 +115,7 @@ pub book-more : (s : List ℕ) (k : ℕ) → bookAt s (suc k) ≡ after (bookAt 
 unfolding tab
 book-more s k = book-last empty (tab k (callAt s)) (callAt s k)
 
-pub said-length : (s : List ℕ) (k : ℕ) → length (said s k) ≡ 68 * k
+pub said-length : (s : List ℕ) (k : ℕ) → length (said s k) ≡ 70 * k
 unfolding tab answersFrom repliesOf
 said-length s zero = refl
 said-length s (suc k) = rw (said-more s k, length-append, said-length s k, call-length (bookAt s k) (take 112 (drop (112 * k) s))) (omega arith)
@@ -128,37 +128,40 @@ there-granted n o = ⊎-elim (λ (y : eqb n 0 ≡ true). rw y) (λ (y : eqb n 0 
 ems-granted : (n : ℕ) (o : Option Session) → granted n (withEms o) false ≡ withEms (granted n o none)
 ems-granted n o = ⊎-elim (λ (y : eqb n 0 ≡ true). rw y) (λ (y : eqb n 0 ≡ false). rw y) (which (eqb n 0))
 
+suite-granted : (n : ℕ) (o : Option Session) → granted n (suiteOf o) 0 ≡ suiteOf (granted n o none)
+suite-granted n o = ⊎-elim (λ (y : eqb n 0 ≡ true). rw y) (λ (y : eqb n 0 ≡ false). rw y) (which (eqb n 0))
+
 looked-reply : (a : ℕ) (i out : List ℕ) (b : Book)
-    → reply (lookedOf a i out b .refusal .number) (lookedOf a i out b .found) (lookedOf a i out b .ems) 0 (outputOf a i out b) ≡ replyOf (answer b (lookUp a i out))
+    → reply (lookedOf a i out b .refusal .number) (lookedOf a i out b .found) (lookedOf a i out b .ems) 0 (lookedOf a i out b .suite) (outputOf a i out b) ≡ replyOf (answer b (lookUp a i out))
 unfolding lookedOf outputOf answer replyOf
 looked-reply a i out b =
     let n = lookUpNumber a i out b in
-    rw (row-number n, there-granted n (sought a i b), ems-granted n (sought a i b))
+    rw (row-number n, there-granted n (sought a i b), ems-granted n (sought a i b), suite-granted n (sought a i b))
 
 module _ (t : Table) where
-  pub stored-steps : (s : Session) (r : Stored) (bytes : List ℕ) → Stores t s r → bytes ≡ reply (r .refusal .number) 0 0 0 []
+  pub stored-steps : (s : Session) (r : Stored) (bytes : List ℕ) → Stores t s r → bytes ≡ reply (r .refusal .number) 0 0 0 0 []
       → Steps t (store s) (record { table = r .table; reply = bytes })
   unfolding answer replyOf
   stored-steps s r bytes p q =
       record { replied = λ b k. q ∙ (rw (p .refusal, row-number (storeNumber s))); keeps = p .keeps }
 
-  pub withdrew-steps : (a : ℕ) (i : List ℕ) (r : Withdrawn) (bytes : List ℕ) → Withdraws t a i r → bytes ≡ reply (r .refusal .number) (r .withdrawn) 0 0 []
+  pub withdrew-steps : (a : ℕ) (i : List ℕ) (r : Withdrawn) (bytes : List ℕ) → Withdraws t a i r → bytes ≡ reply (r .refusal .number) (r .withdrawn) 0 0 0 []
       → Steps t (withdraw a i) (record { table = r .table; reply = bytes })
   unfolding answer replyOf withdrawnOf
   withdrew-steps a i r bytes p q =
       record { replied = λ b k. q ∙ (rw (p .refusal, row-number (withdrawNumber a i), p .answers b k)); keeps = p .keeps }
 
-  pub counted-steps : (a : ℕ) (r : Held) (bytes : List ℕ) → CountsHeld t a r → bytes ≡ reply (r .refusal .number) 0 0 (r .count) []
+  pub counted-steps : (a : ℕ) (r : Held) (bytes : List ℕ) → CountsHeld t a r → bytes ≡ reply (r .refusal .number) 0 0 (r .count) 0 []
       → Steps t (held a) (record { table = t; reply = bytes })
   unfolding answer replyOf heldOf after
   counted-steps a r bytes p q = record { replied = λ b k. q ∙ (rw (p .answers b k, row-number (heldNumber a))); keeps = λ b k. k }
 
-  pub cleared-steps : (r : Cleared) (bytes : List ℕ) → Clears t r → bytes ≡ reply (r .refusal .number) 0 0 0 []
+  pub cleared-steps : (r : Cleared) (bytes : List ℕ) → Clears t r → bytes ≡ reply (r .refusal .number) 0 0 0 0 []
       → Steps t clear (record { table = r .table; reply = bytes })
   unfolding answer replyOf after
   cleared-steps r bytes p q = record { replied = λ b k. q ∙ (rw (p .refusal, row-number 0)); keeps = λ b k. p .keeps }
 
-  pub looked-steps : (a : ℕ) (i out : List ℕ) (r : Looked) (out′ bytes : List ℕ) → LooksUp t a i out r out′ → bytes ≡ reply (r .refusal .number) (r .found) (r .ems) 0 out′
+  pub looked-steps : (a : ℕ) (i out : List ℕ) (r : Looked) (out′ bytes : List ℕ) → LooksUp t a i out r out′ → bytes ≡ reply (r .refusal .number) (r .found) (r .ems) 0 (r .suite) out′
       → Steps t (lookUp a i out) (record { table = t; reply = bytes })
   unfolding after
   looked-steps a i out r out′ bytes p q =
@@ -185,9 +188,9 @@ lent-front lent w e h = rw (e, le-leb (length lent) 64 h, take-append-seam)
 pub lent-length-is : (lent w o : List ℕ) → w ≡ putList (replicate 64 0) lent → length lent ≤ 64 → length o ≡ length lent → 64 ≡ length (o ++ drop (length lent) w)
 lent-length-is lent w o e h l = rw (lent-zeros lent w e h, length-append, length-replicate) (omega arith)
 
-pub looked-bytes : (n f e : ℕ) (h lent w o v : List ℕ) → h ≡ reply n f e 0 [] → w ≡ putList (replicate 64 0) lent → length lent ≤ 64 → length o ≡ length lent
-    → v ≡ putList (midOf 4 64 h) (o ++ drop (length lent) w) → putMid 4 64 h v ≡ reply n f e 0 o
-looked-bytes n f e h lent w o v p q k l r =
+pub looked-bytes : (n f e s : ℕ) (h lent w o v : List ℕ) → h ≡ reply n f e 0 s [] → w ≡ putList (replicate 64 0) lent → length lent ≤ 64 → length o ≡ length lent
+    → v ≡ putList (midOf 6 64 h) (o ++ drop (length lent) w) → putMid 6 64 h v ≡ reply n f e 0 s o
+looked-bytes n f e s h lent w o v p q k l r =
     let x : o ++ drop (length lent) w ≡ o ++ replicate (64 - length o) 0 = rw (l, lent-zeros lent w q k) in
     let y : length (o ++ replicate (64 - length o) 0) ≡ 64 = rw (length-append, length-replicate) (omega arith) in
     rw (r, x, p, put-all (replicate 64 0) (o ++ replicate (64 - length o) 0) y, append-nil)
@@ -195,7 +198,7 @@ looked-bytes n f e h lent w o v p q k l r =
 -- ---- the call in an entry, by its first byte
 
 module _ (e : List ℕ) where
-  pub call-store : getD e 0 0 ≡ 0 → callOf e ≡ store (record { axle = getD e 1 0; identifier = identifierIn e; ems = yes (getD e 3 0); secret = lentIn e })
+  pub call-store : getD e 0 0 ≡ 0 → callOf e ≡ store (record { axle = getD e 1 0; identifier = identifierIn e; ems = yes (getD e 3 0); suite = suiteIn e; secret = lentIn e })
   unfolding callOf
   call-store h = rw (eq-eqb (getD e 0 0) 0 h)
 
@@ -228,7 +231,7 @@ pub built-none : (s d : List ℕ) → Built d 0 (said s 0) d
 unfolding tab answersFrom repliesOf
 built-none s d = record { size = refl; same = refl; holds = refl }
 
-pub built-more : (out m m′ d v r : List ℕ) (at at′ : ℕ) → Built out at m d → length r ≡ 68 → at + 68 ≤ length d → at′ ≡ at + 68 → m′ ≡ m ++ r
+pub built-more : (out m m′ d v r : List ℕ) (at at′ : ℕ) → Built out at m d → length r ≡ 70 → at + 70 ≤ length d → at′ ≡ at + 70 → m′ ≡ m ++ r
     → v ≡ putList (midOf at (length out - at) out) r → Built (putMid at (length out - at) out v) at′ m′ d
 built-more out m m′ d v r at at′ b l f p q w =
     let rest : drop at out ≡ drop at d = rw (b .holds) (drop-at m (drop at d) at (b .size)) in
@@ -237,14 +240,14 @@ built-more out m m′ d v r at at′ b l f p q w =
     let none : drop (length out - at) (drop at d) ≡ [] = drop-of-length-le (drop at d) {i = length out - at} (rw length-drop (omega (arith, b .same))) in
     let fits : length r ≤ length (drop at d) = rw length-drop (omega arith) in
     let new : putMid at (length out - at) out v ≡ m′ ++ drop at′ d =
-    rw (w, rest, front, all, none, append-nil, le-leb (length r) (length (drop at d)) fits, l, drop-drop, p, q) (sym (append-assoc m r (drop (at + 68) d))) in
+    rw (w, rest, front, all, none, append-nil, le-leb (length r) (length (drop at d)) fits, l, drop-drop, p, q) (sym (append-assoc m r (drop (at + 70) d))) in
     record {
       size = rw (q, length-append, b .size, l, p);
       same = ap length new ∙ (rw (q, p, length-append, length-append, length-drop) (omega (arith, b .size)));
       holds = new;
     }
 
-pub built-all : (s out d : List ℕ) → Built out (68 * (length s / 112)) (said s (length s / 112)) d → 68 * (length s / 112) ≤ length d
+pub built-all : (s out d : List ℕ) → Built out (70 * (length s / 112)) (said s (length s / 112)) d → 70 * (length s / 112) ≤ length d
     → (0 ≡ putNumber d (replies s)) × (out ≡ putList d (replies s))
 unfolding callsIn
 built-all s out d b h =
@@ -252,7 +255,7 @@ built-all s out d b h =
     let t = le-leb (length (said s (length s / 112))) (length d) n in
     (rw t, rw (t, said-length s (length s / 112)) (b .holds))
 
-pub too-short : (s d : List ℕ) → length d < 68 * (length s / 112) → (10 ≡ putNumber d (replies s)) × (d ≡ putList d (replies s))
+pub too-short : (s d : List ℕ) → length d < 70 * (length s / 112) → (10 ≡ putNumber d (replies s)) × (d ≡ putList d (replies s))
 unfolding callsIn
 too-short s d h =
     let n : length d < length (said s (length s / 112)) = rw (said-length s (length s / 112)) h in

@@ -1,4 +1,5 @@
 // A script of calls, run over the session table: the book's answers, by running code.
+use octets::number;
 use octets::put;
 use refusal::Refusal;
 use refusal::refuse;
@@ -10,35 +11,44 @@ ghost use lib.ListN.{length};
 ghost use Rattle.refusal.specs.Table.{refusalOf};
 ghost use Rattle.octets.specs.Put.{putNumber, putList};
 ghost use Rattle.sessions.specs.Book.{store, lookUp, withdraw, held, clear};
-ghost use Rattle.script.specs.Script.{identifierIn, lentIn, callOf, reply, replies};
+ghost use Rattle.script.specs.Script.{identifierIn, suiteIn, lentIn, callOf, reply, replies};
 ghost use Rattle.script.specs.Steps.{Steps};
 
 // The table after a call, and the answer.
 struct Stepped {
     table: Table,
-    reply: [u8; 68],
+    reply: [u8; 70],
 }
 
-fn head(number: u8, flag: u8, ems: u8, count: u8) -> [u8; 68]
-    ensures { λ r. ⌜ r ≡ reply number flag ems count [] ⌝ }
+fn head(number: u8, flag: u8, ems: u8, count: u8, suite: u16) -> [u8; 70]
+    ensures { λ r. ⌜ r ≡ reply number flag ems count suite [] ⌝ }
 {
-    let mut bytes = [0u8; 68];
+    let mut bytes = [0u8; 70];
     bytes[0] = number;
     bytes[1] = flag;
     bytes[2] = ems;
     bytes[3] = count;
+    bytes[4] = (suite / 256) as u8;
+    bytes[5] = (suite % 256) as u8;
     bytes
 }
 
-fn stored(table: Table, axle: u8, identifier: &[u8], ems: bool, secret: &[u8]) -> Stepped
-    ensures { λ r. ⌜ Steps table (store (record { axle = axle; identifier = now (identifier .entry); ems = ems; secret = now (secret .entry) })) r ⌝ }
+fn stored(
+    table: Table,
+    axle: u8,
+    identifier: &[u8],
+    ems: bool,
+    suite: u16,
+    secret: &[u8],
+) -> Stepped
+    ensures { λ r. ⌜ Steps table (store (record { axle = axle; identifier = now (identifier .entry); ems = ems; suite = suite; secret = now (secret .entry) })) r ⌝ }
 {
-    let r = table.store(axle, identifier, ems, secret);
+    let r = table.store(axle, identifier, ems, suite, secret);
     let number = r.refusal.number;
     let next = r.table;
     Stepped {
         table: next,
-        reply: head(number, 0, 0, 0),
+        reply: head(number, 0, 0, 0, 0),
     }
 }
 
@@ -51,8 +61,8 @@ fn looked(table: Table, axle: u8, identifier: &[u8], lent: &[u8]) -> Stepped
     put(&mut out, lent);
     let r = table.look_up(axle, identifier, &mut out[..n]);
     let number = r.refusal.number;
-    let mut reply = head(number, r.found, r.ems, 0);
-    put(&mut reply[4..], &out);
+    let mut reply = head(number, r.found, r.ems, 0, r.suite);
+    put(&mut reply[6..], &out);
     Stepped { table, reply }
 }
 
@@ -64,7 +74,7 @@ fn withdrew(table: Table, axle: u8, identifier: &[u8]) -> Stepped
     let next = r.table;
     Stepped {
         table: next,
-        reply: head(number, r.withdrawn, 0, 0),
+        reply: head(number, r.withdrawn, 0, 0, 0),
     }
 }
 
@@ -75,7 +85,7 @@ fn counted(table: Table, axle: u8) -> Stepped
     let number = r.refusal.number;
     Stepped {
         table,
-        reply: head(number, 0, 0, r.count),
+        reply: head(number, 0, 0, r.count, 0),
     }
 }
 
@@ -87,7 +97,7 @@ fn cleared(table: Table) -> Stepped
     let next = r.table;
     Stepped {
         table: next,
-        reply: head(number, 0, 0, 0),
+        reply: head(number, 0, 0, 0, 0),
     }
 }
 
@@ -105,6 +115,13 @@ fn identifier_in(entry: &[u8]) -> &[u8]
     let n = least(entry[2], 40);
     let end = 8 + n;
     &entry[8..end]
+}
+
+fn suite_in(entry: &[u8]) -> u16
+    requires { ⌜ length (now entry) ≡ 112 ⌝ }
+    ensures { λ r. ⌜ r ≡ suiteIn (now (entry .entry)) ⌝ }
+{
+    number(entry[5], entry[6])
 }
 
 fn lent_in(entry: &[u8]) -> &[u8]
@@ -128,6 +145,7 @@ fn step(table: Table, entry: &[u8]) -> Stepped
             axle,
             identifier_in(entry),
             entry[3] != 0,
+            suite_in(entry),
             lent_in(entry),
         ),
         1 => looked(table, axle, identifier_in(entry), lent_in(entry)),
@@ -142,7 +160,7 @@ pub fn replay(script: &[u8], out: &mut [u8]) -> Refusal
     ensures { λ r. ⌜ (r ≡ refusalOf (putNumber (now (out .entry)) (replies (now (script .entry))))) × (now (out .exit) ≡ putList (now (out .entry)) (replies (now (script .entry)))) ⌝ }
 {
     let n = script.len() / 112;
-    if out.len() < 68 * n {
+    if out.len() < 70 * n {
         return refuse(10);
     }
     let mut table = Table::fresh();
@@ -151,7 +169,7 @@ pub fn replay(script: &[u8], out: &mut [u8]) -> Refusal
         let from = 112 * k;
         let end = from + 112;
         let s = step(table, &script[from..end]);
-        let to = 68 * k;
+        let to = 70 * k;
         put(&mut out[to..], &s.reply);
         let next = s.table;
         table = next;

@@ -21,7 +21,7 @@ use Rattle.seqs.specs.Cases.{which}
 use Rattle.sessions.specs.Book.{Session, Book, empty, there, isNamed, sought, badName, tooShort, storeNumber, lookUpNumber, withdrawNumber, heldNumber, granted, handed, holds, isName, lookUp, Answer, looked, withdrew, counted, answer, after, answersFrom, bookFrom, numberOf}
 use Rattle.sessions.specs.History.{Event, History, callsOf, answersOf, latest, since, latestFrom, sinceFrom, noted, further}
 use Rattle.sessions.specs.Keeps.{Formed, Each, Keeps}
-use Rattle.sessions.specs.Promises.{LooksUp, withEms, lookedOf, outputOf, withdrawnOf, heldOf}
+use Rattle.sessions.specs.Promises.{LooksUp, withEms, suiteOf, lookedOf, outputOf, withdrawnOf, heldOf}
 use Rattle.sessions.specs.Demand3.{foundBy, Step, storing, looking, withdrawing, counting, clearing, Run, done, next, Theorem}
 use Rattle.sessions.specs.declared.table.Table.{Table}
 use Rattle.sessions.specs.declared.calls.Looked.{Looked}
@@ -47,7 +47,7 @@ fits a i out b s e z =
 -- flags and bytes, read again, are the session
 handed-back : (a : ℕ) (i out : List ℕ) (o : Option Session)
     → ((s : Session) → o ≡ some s → (s .axle ≡ a) × (s .identifier ≡ i) × (length (s .secret) ≡ 48) × (length (s .secret) ≤ length out))
-    → pick (yes (bit (there o))) (some (record { axle = a; identifier = i; ems = yes (bit (withEms o)); secret = take 48 (handed out o) })) none ≡ o
+    → pick (yes (bit (there o))) (some (record { axle = a; identifier = i; ems = yes (bit (withEms o)); suite = suiteOf o; secret = take 48 (handed out o) })) none ≡ o
 handed-back a i out none h = refl
 handed-back a i out (some s) h =
     let k = h s refl in

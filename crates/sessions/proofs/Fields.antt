@@ -2,9 +2,9 @@
 -- Assumes nothing.
 use mathlib.Core.Path.{_≡_, refl, sym, _∙_, ap}
 use mathlib.Core.Bool.{Bool, true}
-use mathlib.Core.List.{List, _++_, append-nil}
+use mathlib.Core.List.{List, [], _∷_, _++_, append-nil}
 use mathlib.Core.Option.{none, some}
-use Prim.Native.Nat.{ℕ, _-_, _≤_}
+use Prim.Native.Nat.{ℕ, _-_, _/_, _%_, _≤_}
 use native.Mathlib.Omega.{arith}
 use lib.ListN.{length, take, replicate, drop-of-length-le}
 use borrow.Author.Tests.{le-leb, eq-eqb, ne-eqb}
@@ -25,11 +25,11 @@ put-zeros i h = rw (le-leb (length i) 32 h, drop-zeros (length i) 32)
 put-whole : (d s : List ℕ) → length s ≡ length d → putList d s ≡ s
 put-whole d s e = rw (le-leb (length s) (length d) (omega arith), drop-of-length-le d {i = length s} (omega arith), append-nil)
 
--- a row that was put together: identifier and secret over zeros
-pub row-is : (a f : ℕ) (e : Bool) (i s n k : List ℕ) → f ≡ bit e → n ≡ putList (replicate 32 0) i → length i ≤ 32 → k ≡ putList (replicate 48 0) s → length s ≡ 48
-    → _≡_ {A = Row} (record { ems = f; size = length i; identifier = n; secret = k }) (rowOf (record { axle = a; identifier = i; ems = e; secret = s }))
+-- a row that was put together: identifier and secret over zeros, the suite in two bytes
+pub row-is : (a f : ℕ) (e : Bool) (u : ℕ) (i s n k : List ℕ) → f ≡ bit e → n ≡ putList (replicate 32 0) i → length i ≤ 32 → k ≡ putList (replicate 48 0) s → length s ≡ 48
+    → _≡_ {A = Row} (record { ems = f; size = length i; suite = (u / 256) ∷ (u % 256) ∷ []; identifier = n; secret = k }) (rowOf (record { axle = a; identifier = i; ems = e; suite = u; secret = s }))
 unfolding rowOf
-row-is a f e i s n k p q h r l = rw (p, q, r, put-zeros i h, put-whole (replicate 48 0) s l)
+row-is a f e u i s n k p q h r l = rw (p, q, r, put-zeros i h, put-whole (replicate 48 0) s l)
 
 module _ (a : ℕ) (i : List ℕ) (r : Row) where
   -- by its first n bytes

@@ -28,7 +28,7 @@ use Rattle.sessions.specs.declared.row.Row.{Row}
 use Rattle.sessions.specs.declared.queue.Queue.{Queue}
 use Rattle.sessions.specs.declared.table.Table.{Table}
 use Rattle.sessions.specs.declared.calls.Looked.{Looked}
-use Rattle.sessions.specs.declared.calls.Known.the-variants.{Nothing, WithoutEms, WithEms}
+use Rattle.sessions.specs.declared.calls.Known.the-variants.{Nothing, Found}
 use Rattle.sessions.proofs.Names.{name-axle, name-identifier, named-name, named-of, of-axle, of-other}
 use Rattle.sessions.proofs.Numbers.{axle-good, name-good, look-11, look-none, look-10, look-0, held-11, held-0}
 use Rattle.sessions.proofs.Parts.{part-length, part-last, part-sought, part-goes}
@@ -56,6 +56,21 @@ queues-less t b b′ from k q e h goes gone =
     (λ (n : eqb c (suc from) ≡ false). rw (goes c, n))
     (which (eqb c (suc from))) in
     rw (queues-are t b e) (six-set (λ c. laid (partOf c b)) from q h ∙ six-same (λ c. pick (eqb c (suc from)) q (laid (partOf c b))) (λ c. laid (partOf c b′)) one)
+
+-- or no session is at that place, and they are left as they are
+queues-past : (t : Table) (b b′ : Book) (from k : ℕ) (numbers : List ℕ) → t ≡ tableOf b → from < 6
+    → ((c : ℕ) → partOf c b′ ≡ pick (eqb c (suc from)) (cut k (partOf c b)) (partOf c b)) → numbers ≡ six (heldIn t) → getD numbers from 0 ≤ k
+    → t .queues ≡ six (λ c. laid (partOf c b′))
+queues-past t b b′ from k numbers e from-six goes held h =
+    let n : getD numbers from 0 ≡ holds (suc from) b = six-read (λ a. holds a b) numbers from 0 (held ∙ numbers-are t b e) from-six in
+    let past : cut k (partOf (suc from) b) ≡ partOf (suc from) b = cut-past k (partOf (suc from) b) (omega (arith, n, h, part-length (suc from) b)) in
+    queues-are t b e
+    ∙ six-same (λ c. laid (partOf c b)) (λ c. laid (partOf c b′))
+    (λ c.
+    ⊎-elim
+    (λ (y : eqb c (suc from) ≡ true). rw (goes c, y, eqb-true c (suc from) y, past))
+    (λ (m : eqb c (suc from) ≡ false). rw (goes c, m))
+    (which (eqb c (suc from))))
 
 -- ---- store
 
@@ -96,17 +111,7 @@ module _ (t : Table) (i : List ℕ) (own from place : ℕ) (from-six : from < 6)
   -- the place is past the queue's end
   pub none-goes : (numbers : List ℕ) → numbers ≡ six (heldIn t) → getD numbers from 0 ≤ place
       → (b : Book) → Keeps t b → t .queues ≡ six (λ c. laid (partOf c (struck (suc own) i b)))
-  none-goes numbers held h b k =
-      let e = k .table in
-      let n : getD numbers from 0 ≡ holds (suc from) b = six-read (λ a. holds a b) numbers from 0 (held ∙ numbers-are t b e) from-six in
-      let past : cut place (partOf (suc from) b) ≡ partOf (suc from) b = cut-past place (partOf (suc from) b) (omega (arith, n, h, part-length (suc from) b)) in
-      queues-are t b e
-      ∙ six-same (λ c. laid (partOf c b)) (λ c. laid (partOf c (struck (suc own) i b)))
-      (λ c.
-      ⊎-elim
-      (λ (y : eqb c (suc from) ≡ true). rw (goes b k c, y, eqb-true c (suc from) y, past))
-      (λ (m : eqb c (suc from) ≡ false). rw (goes b k c, m))
-      (which (eqb c (suc from))))
+  none-goes numbers held h b k = queues-past t b (struck (suc own) i b) from place numbers (k .table) from-six (goes b k) held h
 
 module _ (t : Table) (s : Session) (n : ℕ) (f : Refusal) (num : n ≡ storeNumber s) (ref : f ≡ refusalOf n) where
   pub stores-refused : (n ≡ 0 → ⊥) → Stores t s (record { refusal = f; table = t })
@@ -156,7 +161,7 @@ looked-same a i out b b′ r out′ e p = record { returned = rw e (p .returned)
 -- its secret is put to the output, or not
 module _ (a : ℕ) (i out : List ℕ) (b : Book) (f : Refusal) (r : Row) (n : ℕ) (out′ : List ℕ) (good : badName a i ≡ false)
     (found : sought a i b ≡ some (sessionOf a r)) (put : n ≡ putNumber out (r .secret)) (puts : out′ ≡ putList out (r .secret)) (ref : f ≡ refusalOf n) where
-  looked-10 : (n ≡ 0 → ⊥) → LookedUp a i out b (record { refusal = f; found = 0; ems = 0 }) out′
+  looked-10 : (n ≡ 0 → ⊥) → LookedUp a i out b (record { refusal = f; found = 0; ems = 0; suite = 0 }) out′
   unfolding lookedOf outputOf sessionOf
   looked-10 z =
       ⊎-elim
@@ -167,7 +172,7 @@ module _ (a : ℕ) (i out : List ℕ) (b : Book) (f : Refusal) (r : Row) (n : �
       record { returned = rw (← num, ref, ten); output = puts ∙ (rw (y, ← num)) })
       (which (leb (length (r .secret)) (length out)))
 
-  looked-0 : n ≡ 0 → LookedUp a i out b (record { refusal = f; found = 1; ems = bit (yes (r .ems)) }) out′
+  looked-0 : n ≡ 0 → LookedUp a i out b (record { refusal = f; found = 1; ems = bit (yes (r .ems)); suite = sessionOf a r .suite }) out′
   unfolding lookedOf outputOf sessionOf
   looked-0 z =
       ⊎-elim
@@ -177,12 +182,12 @@ module _ (a : ℕ) (i out : List ℕ) (b : Book) (f : Refusal) (r : Row) (n : �
       (λ (y : leb (length (r .secret)) (length out) ≡ false). let ten : n ≡ 10 = put ∙ (rw y) in absurd (omega arith))
       (which (leb (length (r .secret)) (length out)))
 
-looked-11 : (a : ℕ) (i out : List ℕ) (f : Refusal) → badName a i ≡ true → f ≡ refusalOf 11 → (b : Book) → LookedUp a i out b (record { refusal = f; found = 0; ems = 0 }) out
+looked-11 : (a : ℕ) (i out : List ℕ) (f : Refusal) → badName a i ≡ true → f ≡ refusalOf 11 → (b : Book) → LookedUp a i out b (record { refusal = f; found = 0; ems = 0; suite = 0 }) out
 unfolding lookedOf outputOf
 looked-11 a i out f h e b = record { returned = rw (← look-11 a i out b h, e); output = rw (← look-11 a i out b h) }
 
 looked-none : (a : ℕ) (i out : List ℕ) (f : Refusal) (b : Book) → badName a i ≡ false → sought a i b ≡ none → f ≡ refusalOf 0
-    → LookedUp a i out b (record { refusal = f; found = 0; ems = 0 }) out
+    → LookedUp a i out b (record { refusal = f; found = 0; ems = 0; suite = 0 }) out
 unfolding lookedOf outputOf
 looked-none a i out f b good z e = record { returned = rw (← look-none a i out b good z, z, e); output = rw (← look-none a i out b good z, z) }
 
@@ -203,7 +208,7 @@ unfolding sessionIn
 taken-some a r n = rw (ne-eqb (r .size) 0 n)
 
 module _ (t : Table) (a : ℕ) (i out : List ℕ) (f : Refusal) where
-  pub looks-11 : badName a i ≡ true → f ≡ refusalOf 11 → LooksUp t a i out (record { refusal = f; found = 0; ems = 0 }) out
+  pub looks-11 : badName a i ≡ true → f ≡ refusalOf 11 → LooksUp t a i out (record { refusal = f; found = 0; ems = 0; suite = 0 }) out
   looks-11 h e = record { book = empty; of-book = looked-11 a i out f h e empty; refused = λ w. refl; answers = λ b k. looked-11 a i out f h e b }
 
   module _ (good : badName a i ≡ false) where
@@ -217,17 +222,18 @@ module _ (t : Table) (a : ℕ) (i out : List ℕ) (f : Refusal) where
         }
 
     module _ (r : Row) (is : sessionIn a r ≡ sought a i (queueOf t a)) where
-      pub looks-none : r .size ≡ 0 → f ≡ refusalOf 0 → LooksUp t a i out (record { refusal = f; found = 0; ems = 0 }) out
-      looks-none z e = looks-up (record { refusal = f; found = 0; ems = 0 }) out (looked-none a i out f (queueOf t a) good (sym is ∙ blank-none a r z) e)
+      pub looks-none : r .size ≡ 0 → f ≡ refusalOf 0 → LooksUp t a i out (record { refusal = f; found = 0; ems = 0; suite = 0 }) out
+      looks-none z e = looks-up (record { refusal = f; found = 0; ems = 0; suite = 0 }) out (looked-none a i out f (queueOf t a) good (sym is ∙ blank-none a r z) e)
 
       module _ (one : r .size ≡ 0 → ⊥) (n : ℕ) (out′ : List ℕ) (put : n ≡ putNumber out (r .secret)) (puts : out′ ≡ putList out (r .secret)) (ref : f ≡ refusalOf n) where
-        pub looks-10 : (n ≡ 0 → ⊥) → LooksUp t a i out (record { refusal = f; found = 0; ems = 0 }) out′
-        looks-10 z = looks-up (record { refusal = f; found = 0; ems = 0 }) out′ (looked-10 a i out (queueOf t a) f r n out′ good (sym is ∙ taken-some a r one) put puts ref z)
+        pub looks-10 : (n ≡ 0 → ⊥) → LooksUp t a i out (record { refusal = f; found = 0; ems = 0; suite = 0 }) out′
+        looks-10 z = looks-up (record { refusal = f; found = 0; ems = 0; suite = 0 }) out′ (looked-10 a i out (queueOf t a) f r n out′ good (sym is ∙ taken-some a r one) put puts ref z)
 
-        pub looks-0 : (m : ℕ) → m ≡ bit (yes (r .ems)) → n ≡ 0 → LooksUp t a i out (record { refusal = f; found = 1; ems = m }) out′
-        looks-0 m e z =
-            looks-up (record { refusal = f; found = 1; ems = m }) out′
-            (rw e (looked-0 a i out (queueOf t a) f r n out′ good (sym is ∙ taken-some a r one) put puts ref z))
+        pub looks-0 : (m u : ℕ) → m ≡ bit (yes (r .ems)) → u ≡ sessionOf a r .suite → n ≡ 0
+            → LooksUp t a i out (record { refusal = f; found = 1; ems = m; suite = u }) out′
+        looks-0 m u e d z =
+            looks-up (record { refusal = f; found = 1; ems = m; suite = u }) out′
+            (rw (e, d) (looked-0 a i out (queueOf t a) f r n out′ good (sym is ∙ taken-some a r one) put puts ref z))
 
 -- ---- withdrawal
 
@@ -255,10 +261,9 @@ module _ (t : Table) (a : ℕ) (i : List ℕ) (m : ℕ) (f : Refusal) (num : m �
       }
 
   -- the session at the place found goes, if there is one
-  module _ (good : m ≡ 0) (own at w : ℕ) (d less : Queue) (is : suc own ≡ a) (own-six : own < 6)
+  module _ (good : m ≡ 0) (own at w : ℕ) (d : Queue) (is : suc own ≡ a) (own-six : own < 6)
       (found : at ≡ place (isNamed a i) (sessionsOf a (getD (t .queues) own d)))
-      (flag : w ≡ bit (ltb at (length (sessionsOf a (getD (t .queues) own d)))))
-      (gone : (b : Book) → getD (t .queues) own d ≡ laid b → length b ≤ 8 → less ≡ laid (cut at b)) where
+      (flag : w ≡ bit (ltb at (length (sessionsOf a (getD (t .queues) own d))))) where
     flag-is : w ≡ withdrawnOf a i (sessionsOf a (getD (t .queues) own d))
     unfolding withdrawnOf
     flag-is =
@@ -268,25 +273,27 @@ module _ (t : Table) (a : ℕ) (i : List ℕ) (m : ℕ) (f : Refusal) (num : m �
         ∙ (⊎-elim
         (λ (y : ltb at (length b) ≡ true).
         let h : place (isNamed a i) b < length b = rw found at (ltb-true at (length b) y) in
-        rw (y, ← n, place-oldest (isNamed a i) (sessionOf a (rowOf (record { axle = a; identifier = []; ems = false; secret = [] }))) b h))
+        rw (y, ← n, place-oldest (isNamed a i) (sessionOf a (rowOf (record { axle = a; identifier = []; ems = false; suite = 0; secret = [] }))) b h))
         (λ (y : ltb at (length b) ≡ false).
         let h : length b ≤ place (isNamed a i) b = rw found at (ltb-false at (length b) y) in
         rw (y, ← n, place-none (isNamed a i) b h))
         (which (ltb at (length b))))
 
-    withdraws-queues : (b : Book) → Keeps t b → set (t .queues) own less ≡ six (λ c. laid (partOf c (strike (isNamed a i) b)))
-    withdraws-queues b k =
-        let e = k .table in
+    -- what it is of each axle's part
+    goes-out : (b : Book) → Keeps t b
+        → (c : ℕ) → partOf c (strike (isNamed a i) b) ≡ pick (eqb c (suc own)) (cut at (partOf c b)) (partOf c b)
+    goes-out b k =
         let p = isNamed a i in
-        let here : sessionsOf a (getD (t .queues) own d) ≡ partOf a b = rw (← is) (sessions-at t b e own d own-six) in
-        let eight : length (partOf (suc own) b) ≤ 8 = rw (part-length (suc own) b) (k .sound .eight (suc own)) in
+        let here : sessionsOf a (getD (t .queues) own d) ≡ partOf a b = rw (← is) (sessions-at t b (k .table) own d own-six) in
         let struck-out : cut at (partOf (suc own) b) ≡ strike p (partOf (suc own) b) = rw (is, found, here) (place-strike p (partOf a b)) in
         let own-name : (s : Session) → p s ≡ true → isOf (suc own) s ≡ true = rw is (named-of a i) in
-        queues-less t b (strike p b) own at less e own-six (part-goes b (suc own) at p own-name struck-out) (gone (partOf (suc own) b) (laid-at t b e own d own-six) eight)
+        part-goes b (suc own) at p own-name struck-out
 
-    pub withdraws-done : Withdraws t a i (record { refusal = f; withdrawn = w; table = record { queues = set (t .queues) own less } })
+    -- the queues qs that are left
+    withdraws-left : (qs : List Queue) → ((b : Book) → Keeps t b → qs ≡ six (λ c. laid (partOf c (strike (isNamed a i) b))))
+        → Withdraws t a i (record { refusal = f; withdrawn = w; table = record { queues = qs } })
     unfolding withdrawnOf after tableOf
-    withdraws-done =
+    withdraws-left qs left =
         let n = sym good ∙ num in
         record {
           refusal = ref ∙ ap refusalOf num;
@@ -297,8 +304,20 @@ module _ (t : Table) (a : ℕ) (i : List ℕ) (m : ℕ) (f : Refusal) (num : m �
               let here : sessionsOf a (getD (t .queues) own d) ≡ partOf a b = rw (← is) (sessions-at t b (k .table) own d own-six) in
               let same : sought a i (sessionsOf a (getD (t .queues) own d)) ≡ sought a i b = ap (sought a i) here ∙ part-sought a i b in
               flag-is ∙ ap (λ (o : Option Session). bit (granted (withdrawNumber a i) (there o) false)) same;
-          keeps = λ b k. record { table = rw (← n, withdraws-queues b k); sound = sound-after b (withdraw a i) (k .sound) };
+          keeps = λ b k. record { table = rw (← n, left b k); sound = sound-after b (withdraw a i) (k .sound) };
         }
+
+    pub withdraws-done : (less : Queue) → ((b : Book) → getD (t .queues) own d ≡ laid b → length b ≤ 8 → less ≡ laid (cut at b))
+        → Withdraws t a i (record { refusal = f; withdrawn = w; table = record { queues = set (t .queues) own less } })
+    withdraws-done less gone =
+        withdraws-left (set (t .queues) own less)
+        (λ b k.
+        let eight : length (partOf (suc own) b) ≤ 8 = rw (part-length (suc own) b) (k .sound .eight (suc own)) in
+        queues-less t b (strike (isNamed a i) b) own at less (k .table) own-six (goes-out b k) (gone (partOf (suc own) b) (laid-at t b (k .table) own d own-six) eight))
+
+    pub withdraws-none : (numbers : List ℕ) → numbers ≡ six (heldIn t) → getD numbers own 0 ≤ at → Withdraws t a i (record { refusal = f; withdrawn = w; table = t })
+    withdraws-none numbers held h =
+        withdraws-left (t .queues) (λ b k. queues-past t b (strike (isNamed a i) b) own at numbers (k .table) own-six (goes-out b k) held h)
 
 -- ---- number held
 
@@ -316,7 +335,7 @@ module _ (t : Table) (a : ℕ) (f : Refusal) where
   pub counts-0 : (k : ℕ) → 1 ≤ a → a ≤ 6 → badAxle a ≡ false → f ≡ refusalOf 0 → (heldIn t a ≤ 8 → k ≡ heldIn t a) → CountsHeld t a (record { refusal = f; count = k })
   unfolding heldOf
   counts-0 k from to h e p =
-      let s : Session = record { axle = a; identifier = []; ems = false; secret = [] } in
+      let s : Session = record { axle = a; identifier = []; ems = false; suite = 0; secret = [] } in
       record {
         book = replicate k s;
         of-book = rw (← held-0 a h, e, holds-replicate a k s (of-axle a s refl));
@@ -354,15 +373,8 @@ module _ (t : Table) (a : ℕ) (i : List ℕ) where
         let e : sought a i (queueOf t a) ≡ none = sym is ∙ blank-none a r z in
         record { book = queueOf t a; of-book = rw e; answers = λ b k. rw (seen t a i b good k, e) }
 
-    module _ (one : r .size ≡ 0 → ⊥) where
-      pub knows-without : r .ems ≡ 0 → Knows t a i WithoutEms
-      unfolding sessionOf
-      knows-without z =
-          let e : sought a i (queueOf t a) ≡ some (sessionOf a r) = sym is ∙ taken-some a r one in
-          record { book = queueOf t a; of-book = rw (e, z); answers = λ b k. rw (seen t a i b good k, e, z) }
-
-      pub knows-with : (r .ems ≡ 0 → ⊥) → Knows t a i WithEms
-      unfolding sessionOf
-      knows-with z =
-          let e : sought a i (queueOf t a) ≡ some (sessionOf a r) = sym is ∙ taken-some a r one in
-          record { book = queueOf t a; of-book = rw (e, ne-eqb (r .ems) 0 z); answers = λ b k. rw (seen t a i b good k, e, ne-eqb (r .ems) 0 z) }
+    pub knows-found : (r .size ≡ 0 → ⊥) → (m u : ℕ) → m ≡ bit (yes (r .ems)) → u ≡ sessionOf a r .suite → Knows t a i (Found (record { ems = m; suite = u }))
+    unfolding sessionOf
+    knows-found one m u f d =
+        let e : sought a i (queueOf t a) ≡ some (sessionOf a r) = sym is ∙ taken-some a r one in
+        record { book = queueOf t a; of-book = rw (e, f, d); answers = λ b k. rw (seen t a i b good k, e, f, d) }

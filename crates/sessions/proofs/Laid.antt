@@ -2,7 +2,7 @@
 -- Assumes nothing.
 use mathlib.Core.Path.{_≡_, refl, sym, _∙_, ap, ap₂}
 use mathlib.Core.List.{List, [], _∷_, _++_, map, map-append, append-assoc}
-use Prim.Native.Nat.{ℕ, zero, suc, _+_, _-_, _≤_, _<_}
+use Prim.Native.Nat.{ℕ, zero, suc, _+_, _-_, _*_, _/_, _%_, _≤_, _<_}
 use native.Mathlib.Numerals.{add-one}
 use native.Mathlib.Omega.{arith}
 use lib.ListN.{length, take, drop, getD, set, replicate, length-map, length-append, length-take, length-drop}
@@ -19,7 +19,9 @@ use Rattle.sessions.specs.declared.queue.Queue.{Queue}
 
 pub session-row : (s : Session) → sessionOf (s .axle) (rowOf s) ≡ s
 unfolding sessionOf rowOf
-session-row s = rw (take-at (s .identifier) (replicate (32 - length (s .identifier)) 0) (length (s .identifier)) refl, yes-bit (s .ems))
+session-row s =
+    let e : 256 * (s .suite / 256) + s .suite % 256 ≡ s .suite = omega arith in
+    rw (take-at (s .identifier) (replicate (32 - length (s .identifier)) 0) (length (s .identifier)) refl, yes-bit (s .ems), e)
 
 sessions-rows : (a : ℕ) (b : Book) (rest : List Row) → Each (λ (s : Session). s .axle ≡ a) b → map (sessionOf a) (take (length b) (map rowOf b ++ rest)) ≡ b
 sessions-rows a [] rest e = refl

@@ -230,7 +230,7 @@ one-row cs = row-answers cs freshRow empty row-fresh sound-empty
 
 -- a session for these runs, by its axle and its identifier's one byte
 abbrev sample : ℕ → ℕ → Session
-sample a n = record { axle = a; identifier = n ∷ []; ems = true; secret = replicate 48 n }
+sample a n = record { axle = a; identifier = n ∷ []; ems = true; suite = n; secret = replicate 48 n }
 
 -- stores of n sessions of an axle, with identifiers from n down to 1
 abbrev storesOf : ℕ → ℕ → List Call

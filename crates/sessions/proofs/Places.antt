@@ -64,7 +64,7 @@ module _ (p : Session → Bool) where
 
 -- what stands past the end of an array of rows
 abbrev pub noRow : Row
-noRow = record { ems = 0; size = 0; identifier = []; secret = [] }
+noRow = record { ems = 0; size = 0; suite = []; identifier = []; secret = [] }
 
 module _ (a : ℕ) (q : Queue) where
   pub sessions-length : length (sessionsOf a q) ≡ length (take (q .held) (q .rows))

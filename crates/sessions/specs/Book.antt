@@ -12,12 +12,14 @@ use Rattle.refusal.specs.First.{firstOf}
 use Rattle.octets.specs.Put.{putList}
 use Rattle.octets.specs.Same.{same}
 
--- 'A session is axle, identifier, EMS or not, 48-byte secret.' In RFC 5246's words: the session identifier and the master
--- secret; EMS says that the secret was made by RFC 7627. The axle is the number of the peer.
+-- 'A session is axle, identifier, EMS or not, 48-byte secret.' Order 2: 'A session now also carries its 2-byte suite.' In RFC 5246's
+-- words: the session identifier, the cipher spec, by the number of its suite, and the master secret; EMS says that the secret was made
+-- by RFC 7627. The axle is the number of the peer.
 pub record Session : Type 0 where
   pub axle : ℕ
   pub identifier : List ℕ
   pub ems : Bool
+  pub suite : ℕ
   pub secret : List ℕ
 
 -- 'It is one row of sessions, each as its store gave it, in order of storing, the oldest first.'

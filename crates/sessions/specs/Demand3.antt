@@ -21,9 +21,9 @@ use Rattle.sessions.specs.declared.calls.Withdrawn.{Withdrawn}
 use Rattle.sessions.specs.declared.calls.Held.{Held}
 use Rattle.sessions.specs.declared.calls.Cleared.{Cleared}
 
--- the session that a look-up hands back: the axle and identifier asked for, the flag returned, the 48 bytes written
+-- the session that a look-up hands back: the axle and identifier asked for, the flag and the suite returned, the 48 bytes written
 abbrev pub foundBy : ℕ → List ℕ → Looked → List ℕ → Option Session
-foundBy a i r out = pick (yes (r .found)) (some (record { axle = a; identifier = i; ems = yes (r .ems); secret = take 48 out })) none
+foundBy a i r out = pick (yes (r .found)) (some (record { axle = a; identifier = i; ems = yes (r .ems); suite = r .suite; secret = take 48 out })) none
 
 -- One call on a table: the table passed, the call with what it was answered, and the table afterwards. The premises are what
 -- the contracts of the five calls ensure, and nothing else.

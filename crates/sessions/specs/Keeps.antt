@@ -3,7 +3,7 @@
 -- Assumes nothing.
 use mathlib.Core.Path.{_≡_}
 use mathlib.Core.List.{List, [], _∷_, _++_, map}
-use Prim.Native.Nat.{ℕ, _-_, _≤_}
+use Prim.Native.Nat.{ℕ, _+_, _-_, _*_, _/_, _%_, _≤_}
 use lib.ListN.{length, take, getD, replicate}
 use Rattle.seqs.specs.Flag.{yes, bit}
 use Rattle.seqs.specs.Pick.{pick}
@@ -42,19 +42,20 @@ unfoldable pub partOf : ℕ → Book → Book
 partOf a [] = []
 partOf a (s ∷ b) = pick (isOf a s) (s ∷ partOf a b) (partOf a b)
 
--- A session in its place, with zeros behind the identifier. Whose it is says the queue.
+-- A session in its place, the suite's first byte the high one, with zeros behind the identifier. Whose it is says the queue.
 unfoldable pub rowOf : Session → Row
 rowOf s =
     record {
       ems = bit (s .ems);
       size = length (s .identifier);
+      suite = (s .suite / 256) ∷ (s .suite % 256) ∷ [];
       identifier = s .identifier ++ replicate (32 - length (s .identifier)) 0;
       secret = s .secret;
     }
 
 -- a place that holds no session
 unfoldable pub noSession : Row
-noSession = record { ems = 0; size = 0; identifier = replicate 32 0; secret = replicate 48 0 }
+noSession = record { ems = 0; size = 0; suite = replicate 2 0; identifier = replicate 32 0; secret = replicate 48 0 }
 
 -- 'in order of storing, each with room for 8 and its number held'; what holds no session is blank
 unfoldable pub laid : Book → Queue
@@ -78,7 +79,14 @@ pub record Keeps (t : Table) (b : Book) : Type 0 where
 
 -- the session in a place of an axle's queue. `take` of more than there is is all, so that every struct value has a meaning.
 unfoldable pub sessionOf : ℕ → Row → Session
-sessionOf a r = record { axle = a; identifier = take (r .size) (r .identifier); ems = yes (r .ems); secret = r .secret }
+sessionOf a r =
+    record {
+      axle = a;
+      identifier = take (r .size) (r .identifier);
+      ems = yes (r .ems);
+      suite = 256 * getD (r .suite) 0 0 + getD (r .suite) 1 0;
+      secret = r .secret;
+    }
 
 -- the places that count, in their order
 unfoldable pub sessionsOf : ℕ → Queue → Book

@@ -20,7 +20,7 @@ pub record OneRow : Type 0 where
 
 -- what stands in a place that no session is in
 unfoldable pub blank : Session
-blank = record { axle = 0; identifier = []; ems = false; secret = replicate 48 0 }
+blank = record { axle = 0; identifier = []; ems = false; suite = 0; secret = replicate 48 0 }
 
 -- The row of an empty table: every place blank, none taken.
 unfoldable pub freshRow : OneRow

@@ -7,7 +7,6 @@ use mathlib.Core.List.{List}
 use mathlib.Core.Option.{Option, none, some}
 use Prim.Native.Nat.{ℕ}
 use Rattle.seqs.specs.Flag.{bit}
-use Rattle.seqs.specs.Pick.{pick}
 use Rattle.refusal.specs.Table.{refusalOf}
 use Rattle.sessions.specs.Book.{Session, Book, empty, there, holds, sought, storeNumber, lookUpNumber, withdrawNumber, heldNumber, granted, handed, store, withdraw, after}
 use Rattle.sessions.specs.Keeps.{Keeps}
@@ -18,7 +17,7 @@ use Rattle.sessions.specs.declared.calls.Withdrawn.{Withdrawn}
 use Rattle.sessions.specs.declared.calls.Held.{Held}
 use Rattle.sessions.specs.declared.calls.Cleared.{Cleared}
 use Rattle.sessions.specs.declared.calls.Known.{Known}
-use Rattle.sessions.specs.declared.calls.Known.the-variants.{Nothing, WithoutEms, WithEms}
+use Rattle.sessions.specs.declared.calls.Known.the-variants.{Nothing, Found}
 
 -- ---- fresh: 'It begins empty.'
 
@@ -40,6 +39,10 @@ abbrev pub withEms : Option Session → Bool
 withEms none = false
 withEms (some s) = s .ems
 
+abbrev pub suiteOf : Option Session → ℕ
+suiteOf none = 0
+suiteOf (some s) = s .suite
+
 -- what is returned where the book is b
 unfoldable pub lookedOf : ℕ → List ℕ → List ℕ → Book → Looked
 lookedOf a i out b =
@@ -48,6 +51,7 @@ lookedOf a i out b =
       refusal = refusalOf n;
       found = bit (granted n (there (sought a i b)) false);
       ems = bit (granted n (withEms (sought a i b)) false);
+      suite = granted n (suiteOf (sought a i b)) 0;
     }
 
 -- and what the output then holds
@@ -100,11 +104,11 @@ pub record Clears (t : Table) (r : Cleared) : Type 0 where
   pub refusal : r .refusal ≡ refusalOf 0
   pub keeps : Keeps (r .table) empty
 
--- ---- what a decision asks of a session: whether there is one, and with EMS or not
+-- ---- what a decision asks of a session: whether there is one, with EMS or not, and its suite
 
 abbrev pub knownOf : Option Session → Known
 knownOf none = Nothing
-knownOf (some s) = pick (s .ems) WithEms WithoutEms
+knownOf (some s) = Found (record { ems = bit (s .ems); suite = s .suite })
 
 pub record Knows (t : Table) (a : ℕ) (i : List ℕ) (r : Known) : Type 0 where
   -- whatever the table is, the answer is that of some book

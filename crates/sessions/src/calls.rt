@@ -5,6 +5,7 @@ use refusal::Refusal;
 use refusal::refuse;
 ghost use mathlib.Core.Path.{_≡_};
 ghost use mathlib.Core.Bool.{Bool};
+ghost use Prim.Native.Nat.{ℕ};
 ghost use Rattle.seqs.specs.Flag.{yes, bit};
 ghost use Rattle.sessions.specs.Book.{badAxle, badName, storeNumber, withdrawNumber};
 ghost use Rattle.sessions.specs.Promises.{Starts, Stores, LooksUp, Withdraws, CountsHeld, Clears, Knows};
@@ -21,6 +22,7 @@ pub struct Looked {
     pub refusal: Refusal,
     pub found: u8,
     pub ems: u8,
+    pub suite: u16,
 }
 
 #[repr(C)]
@@ -42,11 +44,15 @@ pub struct Cleared {
     pub table: Table,
 }
 
-// What is known of a session without its secret.
+// What a decision weighs of a session, and no secret. Of `ems` 0 is no and everything else is yes.
+pub struct Weighed {
+    pub ems: u8,
+    pub suite: u16,
+}
+
 pub enum Known {
     Nothing,
-    WithoutEms,
-    WithEms,
+    Found(Weighed),
 }
 
 fn bad_axle(axle: u8) -> bool
@@ -77,7 +83,7 @@ fn bad_name(axle: u8, identifier: &[u8]) -> bool
 }
 
 fn store_number(axle: u8, identifier: &[u8], secret: &[u8]) -> u8
-    ensures { λ r. ⌜ ((ems : Bool) → r ≡ storeNumber (record { axle = axle; identifier = now (identifier .entry); ems = ems; secret = now (secret .entry) })) ⌝ }
+    ensures { λ r. ⌜ ((ems : Bool) (suite : ℕ) → r ≡ storeNumber (record { axle = axle; identifier = now (identifier .entry); ems = ems; suite = suite; secret = now (secret .entry) })) ⌝ }
 {
     if bad_name(axle, identifier) {
         return 11;
@@ -110,8 +116,8 @@ impl Table {
     }
 
     // One session goes, if any, and the new one is written last.
-    pub fn store(self, axle: u8, identifier: &[u8], ems: bool, secret: &[u8]) -> Stored
-        ensures { λ r. ⌜ Stores self (record { axle = axle; identifier = now (identifier .entry); ems = ems; secret = now (secret .entry) }) r ⌝ }
+    pub fn store(self, axle: u8, identifier: &[u8], ems: bool, suite: u16, secret: &[u8]) -> Stored
+        ensures { λ r. ⌜ Stores self (record { axle = axle; identifier = now (identifier .entry); ems = ems; suite = suite; secret = now (secret .entry) }) r ⌝ }
     {
         let number = store_number(axle, identifier, secret);
         let refusal = refuse(number);
@@ -126,7 +132,7 @@ impl Table {
             if goes.place < numbers[from] as usize {
                 table.queues[from] = table.queues[from].without(goes.place);
             }
-            let row = Row::of(identifier, ems, secret);
+            let row = Row::of(identifier, ems, suite, secret);
             table.queues[own] = table.queues[own].pushed(row);
         }
         Stored { refusal, table }
@@ -141,6 +147,7 @@ impl Table {
                 refusal: refuse(11),
                 found: 0,
                 ems: 0,
+                suite: 0,
             };
         }
         let row = self.named(axle, identifier);
@@ -149,6 +156,7 @@ impl Table {
                 refusal: refuse(0),
                 found: 0,
                 ems: 0,
+                suite: 0,
             };
         }
         let number = octets::put(out, &row.secret);
@@ -158,6 +166,7 @@ impl Table {
                 refusal,
                 found: 0,
                 ems: 0,
+                suite: 0,
             };
         }
         let ems = flag(row.ems);
@@ -165,6 +174,7 @@ impl Table {
             refusal,
             found: 1,
             ems,
+            suite: row.suite_number(),
         }
     }
 
@@ -177,9 +187,13 @@ impl Table {
         let mut table = self;
         if number == 0 {
             let own = axle as usize - 1;
+            let numbers = self.numbers();
             let i = table.queues[own].find(identifier);
             withdrawn = table.queues[own].taken(i);
-            table.queues[own] = table.queues[own].without(i);
+            // as in a store
+            if i < numbers[own] as usize {
+                table.queues[own] = table.queues[own].without(i);
+            }
         }
         Withdrawn {
             refusal,
@@ -214,7 +228,7 @@ impl Table {
         }
     }
 
-    // Is there a session of that axle and identifier, and with EMS? No secret is handed out.
+    // Is there a session of that axle and identifier, with EMS or not, and of which suite? No secret is handed out.
     pub fn known(self, axle: u8, identifier: &[u8]) -> Known
         ensures { λ r. ⌜ Knows self axle (now (identifier .entry)) r ⌝ }
     {
@@ -225,9 +239,10 @@ impl Table {
         if row.size == 0 {
             return Known::Nothing;
         }
-        if row.ems == 0 {
-            return Known::WithoutEms;
-        }
-        Known::WithEms
+        let ems = flag(row.ems);
+        Known::Found(Weighed {
+            ems,
+            suite: row.suite_number(),
+        })
     }
 }

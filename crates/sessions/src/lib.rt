@@ -11,6 +11,7 @@ pub use calls::Held;
 pub use calls::Known;
 pub use calls::Looked;
 pub use calls::Stored;
+pub use calls::Weighed;
 pub use calls::Withdrawn;
 pub use queue::Queue;
 pub use row::Row;

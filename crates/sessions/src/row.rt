@@ -10,6 +10,7 @@ ghost use Rattle.sessions.specs.Keeps.{rowOf, noSession, sessionOf};
 pub struct Row {
     pub ems: u8,
     pub size: u8,
+    pub suite: [u8; 2],
     pub identifier: [u8; 32],
     pub secret: [u8; 48],
 }
@@ -22,15 +23,16 @@ impl Row {
         Row {
             ems: 0,
             size: 0,
+            suite: [0u8; 2],
             identifier: [0u8; 32],
             secret: [0u8; 48],
         }
     }
 
     // The session in its place.
-    pub(crate) fn of(identifier: &[u8], ems: bool, secret: &[u8]) -> Row
+    pub(crate) fn of(identifier: &[u8], ems: bool, suite: u16, secret: &[u8]) -> Row
         requires { ⌜ (length (now identifier) ≤ 32) × (length (now secret) ≡ 48) ⌝ }
-        ensures { λ r. ⌜ ((a : ℕ) → r ≡ rowOf (record { axle = a; identifier = now (identifier .entry); ems = ems; secret = now (secret .entry) })) ⌝ }
+        ensures { λ r. ⌜ ((a : ℕ) → r ≡ rowOf (record { axle = a; identifier = now (identifier .entry); ems = ems; suite = suite; secret = now (secret .entry) })) ⌝ }
     {
         let mut name = [0u8; 32];
         octets::put(&mut name, identifier);
@@ -40,6 +42,7 @@ impl Row {
         Row {
             ems: flag,
             size: identifier.len() as u8,
+            suite: [(suite / 256) as u8, (suite % 256) as u8],
             identifier: name,
             secret: key,
         }
@@ -51,6 +54,13 @@ impl Row {
     {
         let n = self.size as usize;
         if n < 32 { n } else { 32 }
+    }
+
+    // The suite as a number.
+    pub(crate) fn suite_number(self) -> u16
+        ensures { λ r. ⌜ ((a : ℕ) → r ≡ sessionOf a self .suite) ⌝ }
+    {
+        octets::number(self.suite[0], self.suite[1])
     }
 
     pub(crate) fn is_named(self, identifier: &[u8]) -> bool

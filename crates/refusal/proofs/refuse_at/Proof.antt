@@ -36,6 +36,9 @@ with-alert-requires-9 c κs = search needs
 with-alert-requires-10 : tie.Need-with-alert-requires-10
 with-alert-requires-10 c κs = search needs
 
+with-alert-requires-11 : tie.Need-with-alert-requires-11
+with-alert-requires-11 c κs = search needs
+
 returns : tie.Need-returns
 returns c = at-row _ (c .before .match .keys1) (c .with-alert .ensures) refl
 
@@ -64,8 +67,11 @@ returns-9 : tie.Need-returns-9
 returns-9 c = at-row _ (c .before .match .keys9) (c .with-alert9 .ensures) refl
 
 returns-10 : tie.Need-returns-10
-returns-10 c = c .with-alert10 .ensures ∙ no-alert _ _ (c .before .match .rest)
+returns-10 c = at-row _ (c .before .match .keys10) (c .with-alert10 .ensures) refl
+
+returns-11 : tie.Need-returns-11
+returns-11 c = c .with-alert11 .ensures ∙ no-alert _ _ (c .before .match .rest)
 
 pub refuse-at-spec : {M : Type 1} → statement M
 refuse-at-spec =
-    tie.close (tie.spec with-alert-requires with-alert-requires-2 with-alert-requires-3 with-alert-requires-4 with-alert-requires-5 with-alert-requires-6 with-alert-requires-7 with-alert-requires-8 with-alert-requires-9 with-alert-requires-10 returns returns-2 returns-3 returns-4 returns-5 returns-6 returns-7 returns-8 returns-9 returns-10)
+    tie.close (tie.spec with-alert-requires with-alert-requires-2 with-alert-requires-3 with-alert-requires-4 with-alert-requires-5 with-alert-requires-6 with-alert-requires-7 with-alert-requires-8 with-alert-requires-9 with-alert-requires-10 with-alert-requires-11 returns returns-2 returns-3 returns-4 returns-5 returns-6 returns-7 returns-8 returns-9 returns-10 returns-11)

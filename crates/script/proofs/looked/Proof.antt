@@ -48,11 +48,14 @@ put-requires-2 c κs = search needs
 
 returns : tie.Need-returns
 returns c =
-    let a = c .before .before .before .before .before .before .before .before .before .before .before .before .before .args in
+    let s = c .before .before .before .before .before .before .before .before .before .before .before .before .before in
+    let a = s .args in
     let l = c .before .before .before .before .before .before .look-up in
-    looked-steps (a .table) (a .axle) (a .identifier .now) (a .lent .now) (l .result) (l .last .1 .1 .1 .0) _ (rw (lent-front (a .lent .now) (c .before .before .before .before .before .before .before .before .before .put .last .0) (c .before .before .before .before .before .before .before .before .before .put .ensures .1) (c .before .before .before .before .before .before .before .before .before .before .before .before .before .pre)) at (l .ensures))
-    (looked-bytes (l .result .refusal .number) (l .result .found) (l .result .ems) (c .before .before .before .before .head .result) (a .lent .now) (c .before .before .before .before .before .before .before .before .before .put .last .0) (l .last .1 .1 .1 .0) (c .before .put2 .last .0)
-    (c .before .before .before .before .head .ensures) (c .before .before .before .before .before .before .before .before .before .put .ensures .1) (c .before .before .before .before .before .before .before .before .before .before .before .before .before .pre) (l .kept .1 .1 .1 .0 ∙ length-take-le (length (a .lent .now)) (c .before .before .before .before .before .before .before .before .before .put .last .0) (omega (arith, c .before .before .before .before .before .before .before .before .before .put .kept .0))) (c .before .put2 .ensures .1))
+    let p = c .before .before .before .before .before .before .before .before .before .put in
+    let size = l .kept .1 .1 .1 .0 ∙ length-take-le (length (a .lent .now)) (p .last .0) (omega (arith, p .kept .0, s .pre)) in
+    looked-steps (a .table) (a .axle) (a .identifier .now) (a .lent .now) (l .result) (l .last .1 .1 .1 .0) _ (rw (lent-front (a .lent .now) (p .last .0) (p .ensures .1) (s .pre)) at (l .ensures))
+    (looked-bytes (l .result .refusal .number) (l .result .found) (l .result .ems) (l .result .suite) (c .before .before .before .before .head .result) (a .lent .now) (p .last .0) (l .last .1 .1 .1 .0) (c .before .put2 .last .0)
+    (c .before .before .before .before .head .ensures) (p .ensures .1) (s .pre) size (c .before .put2 .ensures .1))
 
 pub looked-spec : {M : Type 1} → statement M
 looked-spec =

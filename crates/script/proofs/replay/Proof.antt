@@ -16,7 +16,7 @@ use Rattle.script.proofs.replay.Statement.{statement}
 use Rattle.script.proofs.replay.Tie as tie
 
 abbrev Inv-loop : tie.InvT-loop
-Inv-loop script out₀ n table₀ k₀ out table k = (k ≤ n) × (68 * n ≤ length out₀) × Keeps table (bookAt script k) × Built out (68 * k) (said script k) out₀
+Inv-loop script out₀ n table₀ k₀ out table k = (k ≤ n) × (70 * n ≤ length out₀) × Keeps table (bookAt script k) × Built out (70 * k) (said script k) out₀
 
 abbrev μ-loop : tie.MeasureT-loop
 μ-loop script out₀ n table₀ k₀ out table k = n - k
@@ -90,12 +90,12 @@ loop-again c =
     let t : Steps (l .loop .table) (callAt s k) (c .before .before .before .before .before .before .before .before .step .result) = rw z at (c .before .before .before .before .before .before .before .before .step .ensures) in
     let b = bookAt s k in
     let r = t .replied b (l .loop .inv .2) in
-    let n : length (c .before .before .before .before .before .before .before .before .step .result .reply) ≡ 68 = ap length r ∙ call-length b (take 112 (drop (112 * k) s)) in
+    let n : length (c .before .before .before .before .before .before .before .before .step .result .reply) ≡ 70 = ap length r ∙ call-length b (take 112 (drop (112 * k) s)) in
     let m : said s (k + 1) ≡ said s k ++ c .before .before .before .before .before .before .before .before .step .result .reply = rw (add-one, said-more s k, r) in (
       omega arith,
       omega arith,
       rw (add-one, book-more s k) (t .keeps (bookAt s k) (l .loop .inv .2)),
-      built-more (l .loop .out) (said s k) (said s (k + 1)) (a .out .now) (c .before .before .before .put .last .0) (c .before .before .before .before .before .before .before .before .step .result .reply) (68 * k) (68 * (k + 1)) (l .loop .inv .3) n (omega arith) (omega arith) m (c .before .before .before .put .ensures .1),
+      built-more (l .loop .out) (said s k) (said s (k + 1)) (a .out .now) (c .before .before .before .put .last .0) (c .before .before .before .before .before .before .before .before .step .result .reply) (70 * k) (70 * (k + 1)) (l .loop .inv .3) n (omega arith) (omega arith) m (c .before .before .before .put .ensures .1),
     )
 
 refuse-requires-2 : tie.Need-refuse-requires-2 Inv-loop μ-loop

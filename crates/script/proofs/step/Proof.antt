@@ -17,6 +17,9 @@ identifier-in-requires c κs = search needs
 shared-slice-read-stored : tie.Need-shared-slice-read-stored
 shared-slice-read-stored c = search needs
 
+suite-in-requires : tie.Need-suite-in-requires
+suite-in-requires c κs = search needs
+
 lent-in-requires : tie.Need-lent-in-requires
 lent-in-requires c κs = search needs
 
@@ -46,8 +49,8 @@ cleared-requires c κs = search needs
 
 returns : tie.Need-returns
 returns c =
-    let e = c .before .before .before .before .before .before .before .before .args .entry .now in
-    rw (call-store e (c .before .before .before .before .match .keys1), ← c .before .before .before .identifier-in .ensures, ← c .before .lent-in .ensures .0) (c .stored .ensures)
+    let e = c .before .before .before .before .before .before .before .before .before .args .entry .now in
+    rw (call-store e (c .before .before .before .before .before .match .keys1), ← c .before .before .before .before .identifier-in .ensures, ← c .before .before .suite-in .ensures, ← c .before .lent-in .ensures .0) (c .stored .ensures)
 
 returns-2 : tie.Need-returns-2
 returns-2 c =
@@ -78,6 +81,7 @@ step-spec =
     shared-slice-read-axle
     identifier-in-requires
     shared-slice-read-stored
+    suite-in-requires
     lent-in-requires
     stored-requires
     identifier-in-requires-2

@@ -5,6 +5,7 @@ use Rattle.hello.specs.Places.{serverRefusal}
 use Rattle.hello.proofs.Learnt.{server-learnt, server-fault}
 use Rattle.decision.specs.Connection.{refusing}
 use Rattle.decision.specs.Client.{lentOf}
+use Rattle.decision.specs.Steps.{weighedIn}
 use Rattle.decision.proofs.Telling.{decide-offer, decide-fault, decide-told}
 use borrow.Author.Needs.{needs}
 use Rattle.decision.proofs.client.decide_client.Statement.{statement}
@@ -22,7 +23,7 @@ refused-requires c κs = search needs
 returns : tie.Need-returns
 returns c =
     let a = c .before .before .before .before .before .before .before .args in
-    decide-offer _ (a .offered .now) (lentOf (a .lent) (a .identifier .now) (a .session-ems)) (a .connection) (a .switches) (sym (c .before .before .before .bad-offer .ensures (a .session-ems)) ∙ c .before .before .if1 .taken) (c .refused .ensures ∙ ap refusing (c .before .refuse .ensures))
+    decide-offer _ (a .offered .now) (lentOf (a .lent) (a .identifier .now) (weighedIn (a .session))) (a .connection) (a .switches) (sym (c .before .before .before .bad-offer .ensures (weighedIn (a .session))) ∙ c .before .before .if1 .taken) (c .refused .ensures ∙ ap refusing (c .before .refuse .ensures))
 
 read-server-hello-requires : tie.Need-read-server-hello-requires
 read-server-hello-requires c κs = search needs
@@ -44,11 +45,11 @@ unfolding serverRefusal
 returns-2 c =
     let a = c .before .before .before .before .before .before .before .before .before .before .args in
     let g = c .before .before .enum-told .given .1 in
-    decide-fault _ (a .offered .now) (lentOf (a .lent) (a .identifier .now) (a .session-ems)) (a .connection) (a .switches) (sym (c .before .before .before .before .before .before .bad-offer .ensures (a .session-ems)) ∙ c .before .before .before .before .before .if1 .left)
+    decide-fault _ (a .offered .now) (lentOf (a .lent) (a .identifier .now) (weighedIn (a .session))) (a .connection) (a .switches) (sym (c .before .before .before .before .before .before .bad-offer .ensures (weighedIn (a .session))) ∙ c .before .before .before .before .before .if1 .left)
     (server-fault (a .message .now) _ (sym g ∙ c .before .before .before .before .read-server-hello .ensures)) (c .refused2 .ensures ∙ ap refusing (c .before .refusal .ensures ∙ ap serverRefusal g))
 
-ems-of-requires : tie.Need-ems-of-requires
-ems-of-requires c κs = search needs
+lent-session-requires : tie.Need-lent-session-requires
+lent-session-requires c κs = search needs
 
 judge-server-hello-requires : tie.Need-judge-server-hello-requires
 judge-server-hello-requires c κs = sym (c .before .before .read .given .1) ∙ c .before .before .before .before .read-server-hello .ensures
@@ -57,8 +58,8 @@ returns-3 : tie.Need-returns-3
 returns-3 c =
     let a = c .before .before .before .before .before .before .before .before .before .before .before .args in
     let w = sym (c .before .before .before .read .given .1) ∙ c .before .before .before .before .before .read-server-hello .ensures in
-    decide-told _ (a .offered .now) (lentOf (a .lent) (a .identifier .now) (a .session-ems)) (a .connection) (a .switches) (sym (c .before .before .before .before .before .before .before .bad-offer .ensures (a .session-ems)) ∙ c .before .before .before .before .before .before .if1 .left)
-    (server-learnt (a .message .now) _ w .reading) (c .before .ems-of .ensures (a .identifier .now)) (c .judge-server-hello .ensures)
+    decide-told _ (a .offered .now) (lentOf (a .lent) (a .identifier .now) (weighedIn (a .session))) (a .connection) (a .switches) (sym (c .before .before .before .before .before .before .before .bad-offer .ensures (weighedIn (a .session))) ∙ c .before .before .before .before .before .before .if1 .left)
+    (server-learnt (a .message .now) _ w .reading) (c .before .lent-session .ensures (a .identifier .now)) (c .judge-server-hello .ensures)
 
 pub decide-client-spec : {M : Type 1} → statement M
 decide-client-spec =
@@ -74,6 +75,6 @@ decide-client-spec =
     refusal-requires
     refused-requires-2
     returns-2
-    ems-of-requires
+    lent-session-requires
     judge-server-hello-requires
     returns-3)

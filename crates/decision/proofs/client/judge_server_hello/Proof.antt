@@ -5,7 +5,7 @@ use Prim.Native.Nat.{_+_, _-_}
 use native.Mathlib.Omega.{arith}
 use lib.ListN.{length}
 use Rattle.hello.proofs.Learnt.{server-learnt}
-use Rattle.decision.specs.Steps.{clientPlain}
+use Rattle.decision.specs.Steps.{clientPlain, weighedIn}
 use Rattle.decision.proofs.Asking.{told-is}
 use borrow.Author.Needs.{needs}
 use Rattle.decision.proofs.client.judge_server_hello.Statement.{statement}
@@ -45,7 +45,7 @@ returns c =
     let h = a .hello in
     let j : h .identifier .at + h .identifier .length - h .identifier .at ≡ h .identifier .length = omega arith in
     let n : h .extensions .indication .at + h .extensions .indication .length - h .extensions .indication .at ≡ h .extensions .indication .length = omega arith in
-    c .judge-told .ensures ∙ ap (clientPlain (a .connection) (a .switches) (a .offered .now) (a .session-ems)) (told-is (a .message .now) h _ _ (s .pre) j n)
+    c .judge-told .ensures ∙ ap (clientPlain (a .connection) (a .switches) (a .offered .now) (weighedIn (a .session))) (told-is (a .message .now) h _ _ (s .pre) j n)
 
 pub judge-server-hello-spec : {M : Type 1} → statement M
 judge-server-hello-spec =

@@ -1,4 +1,4 @@
--- The server's six rows: of no session, and of a session without EMS and with it.
+-- The server's six rows: of no session, and of a session.
 -- Assumes nothing.
 use mathlib.Core.Path.{sym, _∙_, ap}
 use Rattle.sessions.specs.declared.calls.Known.{Known}
@@ -15,17 +15,11 @@ enum-told c = search needs
 full-requires : tie.Need-full-requires
 full-requires c κs = search needs
 
-enum-told-2 : tie.Need-enum-told-2
-enum-told-2 c = search needs
+enum-known-session : tie.Need-enum-known-session
+enum-known-session c = search needs
 
-original-without-requires : tie.Need-original-without-requires
-original-without-requires c κs = search needs
-
-enum-told-3 : tie.Need-enum-told-3
-enum-told-3 c = search needs
-
-original-with-requires : tie.Need-original-with-requires
-original-with-requires c κs = search needs
+resumable-requires : tie.Need-resumable-requires
+resumable-requires c κs = search needs
 
 returns : tie.Need-returns
 returns c =
@@ -35,14 +29,8 @@ returns c =
 returns-2 : tie.Need-returns-2
 unfolding serverOutcome
 returns-2 c =
-    let a = c .before .before .before .args in
-    c .original-without .ensures ∙ sym (ap (λ (x : Known). serverOutcome (a .switches) (originalIn x) (a .ems)) (c .before .enum-told2 .given .1))
-
-returns-3 : tie.Need-returns-3
-unfolding serverOutcome
-returns-3 c =
-    let a = c .before .before .before .args in
-    c .original-with .ensures (a .switches) ∙ sym (ap (λ (x : Known). serverOutcome (a .switches) (originalIn x) (a .ems)) (c .before .enum-told3 .given .1))
+    let a = c .before .before .before .before .before .args in
+    c .resumable .ensures ∙ sym (ap (λ (x : Known). serverOutcome (a .switches) (originalIn x) (a .ems)) (c .before .before .before .session .given .1))
 
 pub server-outcome-spec : {M : Type 1} → statement M
 server-outcome-spec =
@@ -50,10 +38,7 @@ server-outcome-spec =
     (tie.spec
     enum-told
     full-requires
-    enum-told-2
-    original-without-requires
-    enum-told-3
-    original-with-requires
+    enum-known-session
+    resumable-requires
     returns
-    returns-2
-    returns-3)
+    returns-2)

@@ -1,9 +1,11 @@
 -- The fields of a ClientHello.
 -- Assumes nothing.
-use mathlib.Core.Path.{refl, _∙_, ap, subst}
-use Prim.Native.Nat.{_+_}
+use mathlib.Core.Path.{_≡_, refl, _∙_, ap, subst}
+use Prim.Native.Nat.{ℕ, _+_, _-_}
+use lib.ListN.{take, drop}
 use native.Mathlib.Omega.{arith}
 use Rattle.hello.specs.Layout.{from, vector}
+use Rattle.hello.specs.Fields.{signalIn}
 use Rattle.hello.specs.Cuts.{placeIn, Opens, Cuts, Blocks}
 use Rattle.hello.specs.Places.{behind}
 use Rattle.hello.specs.declared.layout.Cut.the-variants as cut
@@ -97,11 +99,29 @@ returns-4 c =
     let t = c .before .before .enum-told3 .given .1 in
     broken (client-4 _ _ _ (opened (c .before .before .before .before .before .before .before .before .before .before .before .before .before .before)) _ (suited (c .before .before .before .before .before .before .before .before .before)) (c .before .before .before .before .before .before .if1 .left) _ (subst (Cuts _ _ _) t (c .before .before .before .before .vector8 .ensures))) (c .before .place3 .ensures ∙ ap placeIn t) (c .refuse-at4 .ensures)
 
+add-to : tie.Need-add-to
+add-to c = omega (arith, suited (c .before .before .before .before .before .before .before .before .before) .1)
+
+sub-lists-suite : tie.Need-sub-lists-suite
+sub-lists-suite c = search needs
+
+part-lists-suite-start : tie.Need-part-lists-suite-start
+part-lists-suite-start c = search needs
+
+part-lists-suite-end : tie.Need-part-lists-suite-end
+part-lists-suite-end c = omega (arith, suited (c .before .before .before .before .before .before .before .before .before) .1)
+
+lists-suite-requires : tie.Need-lists-suite-requires
+lists-suite-requires c κs = search needs
+
+flag-requires : tie.Need-flag-requires
+flag-requires c κs = search needs
+
 add-read-block : tie.Need-add-read-block
-add-read-block c = omega (arith, methods-of (c .before .before) .1)
+add-read-block c = omega (arith, methods-of (c .before .before .before .before .before .before) .1, c .before .before .before .before .before .before .before .before .before .before .before .before .before .before .before .before .before .before .before .before .before .before .good)
 
 read-block-requires : tie.Need-read-block-requires
-read-block-requires c κs = omega (arith, methods-of (c .before .before) .1)
+read-block-requires c κs = omega (arith, methods-of (c .before .before .before .before .before .before) .1)
 
 enum-known-place : tie.Need-enum-known-place
 enum-known-place c = search needs
@@ -115,26 +135,24 @@ enum-known-extensions c = search needs
 pair-requires : tie.Need-pair-requires
 pair-requires c κs = search needs
 
-cast-t25 : tie.Need-cast-t25
-cast-t25 c = search needs
+cast-t31 : tie.Need-cast-t31
+cast-t31 c = search needs
 
-add-t26 : tie.Need-add-t26
-add-t26 c = let o = opened (c .before .before .before .before .before .before .before .before .before .before .before .before .before .before .before .before .before .before .before) in omega (arith, o .0, c .before .before .before .before .before .before .before .before .before .before .before .before .before .before .before .before .before .struct-known .given)
-
-signalled-requires : tie.Need-signalled-requires
-signalled-requires c κs = suited (c .before .before .before .before .before .before .before .before .before .before .before .before .before .before) .1
-
-flag-requires : tie.Need-flag-requires
-flag-requires c κs = search needs
+add-t32 : tie.Need-add-t32
+add-t32 c = let o = opened (c .before .before .before .before .before .before .before .before .before .before .before .before .before .before .before .before .before .before .before .before .before .before .before) in omega (arith, o .0, c .before .before .before .before .before .before .before .before .before .before .before .before .before .before .before .before .before .before .before .before .before .struct-known .given)
 
 returns-5 : tie.Need-returns-5
 returns-5 c =
-    broken (client-5 _ _ _ (opened (c .before .before .before .before .before .before .before .before .before .before .before .before .before .before .before .before .before .before .before)) _ (suited (c .before .before .before .before .before .before .before .before .before .before .before .before .before .before)) (c .before .before .before .before .before .before .before .before .before .before .before .if1 .left) _ (methods-of (c .before .before .before .before .before .before .before)) _ (subst (Blocks _ _) (c .before .before .place4 .given .1) (c .before .before .before .before .read-block .ensures))) refl (c .refuse-at5 .ensures)
+    broken (client-5 _ _ _ (opened (c .before .before .before .before .before .before .before .before .before .before .before .before .before .before .before .before .before .before .before .before .before .before .before)) _ (suited (c .before .before .before .before .before .before .before .before .before .before .before .before .before .before .before .before .before .before)) (c .before .before .before .before .before .before .before .before .before .before .before .before .before .before .before .if1 .left) _ (methods-of (c .before .before .before .before .before .before .before .before .before .before .before)) _ (subst (Blocks _ _) (c .before .before .place4 .given .1) (c .before .before .before .before .read-block .ensures))) refl (c .refuse-at5 .ensures)
 
 returns-6 : tie.Need-returns-6
 returns-6 c =
-    let x = c .before .before .before .before .extensions in
-    client-yes _ _ _ (opened (c .before .before .before .before .before .before .before .before .before .before .before .before .before .before .before .before .before .before .before .before .before)) _ (suited (c .before .before .before .before .before .before .before .before .before .before .before .before .before .before .before .before)) (c .before .before .before .before .before .before .before .before .before .before .before .before .before .if1 .left) _ (methods-of (c .before .before .before .before .before .before .before .before .before)) (x .given .0 .0) (subst (Blocks _ _) (x .given .1) (c .before .before .before .before .before .before .read-block .ensures)) _ (c .before .before .pair .ensures .0) (c .before .signalled .ensures) (c .flag .ensures)
+    let x = c .before .before .extensions in
+    let s = c .before .before .before .before .before .before .before .before .before .before .before .before .before .before .before .before .before .before .cut2 .given .0 .0 in
+    let n : s .at + s .length - s .at ≡ s .length = omega arith in
+    client-yes _ _ _ (opened (c .before .before .before .before .before .before .before .before .before .before .before .before .before .before .before .before .before .before .before .before .before .before .before)) _ (suited (c .before .before .before .before .before .before .before .before .before .before .before .before .before .before .before .before .before .before)) (c .before .before .before .before .before .before .before .before .before .before .before .before .before .before .before .if1 .left) _ (methods-of (c .before .before .before .before .before .before .before .before .before .before .before)) (x .given .0 .0) (subst (Blocks _ _) (x .given .1) (c .before .before .before .before .read-block .ensures)) _ (c .pair .ensures .0)
+    (c .before .before .before .before .before .before .before .lists-suite .ensures ∙ ap (λ (k : ℕ). signalIn (take k (drop (s .at) (c .before .before .before .before .before .before .before .before .before .before .before .before .before .before .before .before .before .before .before .before .before .before .before .before .before .before .before .args .message .now)))) n)
+    (c .before .before .before .before .before .before .flag .ensures)
 
 pub lay-client-spec : {M : Type 1} → statement M
 lay-client-spec =
@@ -162,15 +180,19 @@ lay-client-spec =
     place-requires-3
     refuse-at-requires-4
     returns-4
+    add-to
+    sub-lists-suite
+    part-lists-suite-start
+    part-lists-suite-end
+    lists-suite-requires
+    flag-requires
     add-read-block
     read-block-requires
     enum-known-place
     refuse-at-requires-5
     enum-known-extensions
     pair-requires
-    cast-t25
-    add-t26
-    signalled-requires
-    flag-requires
+    cast-t31
+    add-t32
     returns-5
     returns-6)

@@ -29,8 +29,14 @@ slice-aggregate-put-3 c =
 put-requires-2 : tie.Need-put-requires-2
 put-requires-2 c κs = search needs
 
-cast-t7 : tie.Need-cast-t7
-cast-t7 c = search needs
+cast-t8 : tie.Need-cast-t8
+cast-t8 c = search needs
+
+cast-t19 : tie.Need-cast-t19
+cast-t19 c = omega arith
+
+cast-t21 : tie.Need-cast-t21
+cast-t21 c = omega arith
 
 returns : tie.Need-returns
 returns c =
@@ -38,7 +44,7 @@ returns c =
     let a = b .args in
     let s = a .secret .now in
     let whole : take 48 s ≡ s = take-all 48 s (omega (arith, b .pre)) in
-    λ x. row-is x (c .if1 .flag) (a .ems) (a .identifier .now) s _ _
+    λ x. row-is x (c .if1 .flag) (a .ems) (a .suite) (a .identifier .now) s _ _
     (⊎-elim (λ w. w .1 ∙ ap bit (sym (w .0 .taken))) (λ w. w .1 ∙ ap bit (sym (w .0 .left))) (c .if1 .came))
     (c .before .before .before .before .before .before .put .ensures .1) (b .pre .0) (c .before .before .put2 .ensures .1 ∙ ap (putList (replicate 48 0)) whole) (b .pre .1)
 
@@ -51,5 +57,7 @@ of-spec =
     slice-aggregate-put-2
     slice-aggregate-put-3
     put-requires-2
-    cast-t7
+    cast-t8
+    cast-t19
+    cast-t21
     returns)

@@ -51,14 +51,19 @@ returns-3 c =
 flag-requires : tie.Need-flag-requires
 flag-requires c κs = search needs
 
+suite-number-requires : tie.Need-suite-number-requires
+suite-number-requires c κs = search needs
+
 same-length-2 : tie.Need-same-length-2
 same-length-2 c = search needs
 
 returns-4 : tie.Need-returns-4
 returns-4 c =
-    let a = c .before .before .before .before .before .before .before .before .before .before .before .before .before .before .before .before .args in
-    let good = sym (c .before .before .before .before .before .before .before .before .before .before .before .before .before .bad-name .ensures) ∙ c .before .before .before .before .before .before .before .before .before .before .before .before .if1 .left in
-    looks-0 (a .self) (a .axle) (a .identifier .now) (a .out .now) (c .before .before .refuse3 .result) good (c .before .before .before .before .before .before .before .before .before .before .before .named .result) (c .before .before .before .before .before .before .before .before .before .before .before .named .ensures) (c .before .before .before .before .before .before .before .before .before .before .if2 .left) (c .before .before .before .before .before .put .result) _ (c .before .before .before .before .before .put .ensures .0) (c .before .before .before .before .before .put .ensures .1) (c .before .before .refuse3 .ensures) (c .flag .result) (c .flag .ensures) (c .before .if3 .left)
+    let a = c .before .before .before .before .before .before .before .before .before .before .before .before .before .before .before .before .before .args in
+    let good = sym (c .before .before .before .before .before .before .before .before .before .before .before .before .before .before .bad-name .ensures) ∙ c .before .before .before .before .before .before .before .before .before .before .before .before .before .if1 .left in
+    let r = c .before .before .before .before .before .before .before .before .before .before .before .before .named in
+    let p = c .before .before .before .before .before .before .put in
+    looks-0 (a .self) (a .axle) (a .identifier .now) (a .out .now) (c .before .before .before .refuse3 .result) good (r .result) (r .ensures) (c .before .before .before .before .before .before .before .before .before .before .before .if2 .left) (p .result) _ (p .ensures .0) (p .ensures .1) (c .before .before .before .refuse3 .ensures) (c .before .flag .result) (c .suite-number .result) (c .before .flag .ensures) (c .suite-number .ensures (a .axle)) (c .before .before .if3 .left)
 
 pub look-up-spec : {M : Type 1} → statement M
 look-up-spec =
@@ -75,5 +80,6 @@ look-up-spec =
     same-length
     returns-3
     flag-requires
+    suite-number-requires
     same-length-2
     returns-4)

@@ -23,7 +23,7 @@ refuse-requires c κs = search needs
 sub-own : tie.Need-sub-own
 sub-own c =
     let a = c .before .before .before .before .before .args in
-    let f = stored-formed (record { axle = a .axle; identifier = a .identifier .now; ems = a .ems; secret = a .secret .now }) (c .before .before .store-number .result) (c .before .before .store-number .ensures (a .ems)) (c .if1 .taken) in
+    let f = stored-formed (record { axle = a .axle; identifier = a .identifier .now; ems = a .ems; suite = a .suite; secret = a .secret .now }) (c .before .before .store-number .result) (c .before .before .store-number .ensures (a .ems) (a .suite)) (c .if1 .taken) in
     omega (arith, f .axle-from)
 
 total-requires : tie.Need-total-requires
@@ -38,13 +38,13 @@ mul-victim c = search needs
 element-copy-out-victim : tie.Need-element-copy-out-victim
 element-copy-out-victim c =
     let a = c .before .before .before .before .before .before .before .args in
-    let f = stored-formed (record { axle = a .axle; identifier = a .identifier .now; ems = a .ems; secret = a .secret .now }) (c .before .before .before .before .store-number .result) (c .before .before .before .before .store-number .ensures (a .ems)) (c .before .before .if1 .taken) in
+    let f = stored-formed (record { axle = a .axle; identifier = a .identifier .now; ems = a .ems; suite = a .suite; secret = a .secret .now }) (c .before .before .before .before .store-number .result) (c .before .before .before .before .store-number .ensures (a .ems) (a .suite)) (c .before .before .if1 .taken) in
     omega (arith, f .axle-from, f .axle-to)
 
 victim-requires : tie.Need-victim-requires
 victim-requires c κs =
     let a = c .before .before .before .before .before .before .before .before .args in
-    let f = stored-formed (record { axle = a .axle; identifier = a .identifier .now; ems = a .ems; secret = a .secret .now }) (c .before .before .before .before .before .store-number .result) (c .before .before .before .before .before .store-number .ensures (a .ems)) (c .before .before .before .if1 .taken) in
+    let f = stored-formed (record { axle = a .axle; identifier = a .identifier .now; ems = a .ems; suite = a .suite; secret = a .secret .now }) (c .before .before .before .before .before .store-number .result) (c .before .before .before .before .before .store-number .ensures (a .ems) (a .suite)) (c .before .before .before .if1 .taken) in
     omega (arith, f .axle-from, f .axle-to)
 
 array-read-if2 : tie.Need-array-read-if2
@@ -62,8 +62,8 @@ element-copy-out-without c = search needs
 without-requires : tie.Need-without-requires
 without-requires c κs = search needs
 
-mul-t30 : tie.Need-mul-t30
-mul-t30 c = search needs
+mul-t31 : tie.Need-mul-t31
+mul-t31 c = search needs
 
 element-set-from-table : tie.Need-element-set-from-table
 element-set-from-table c = search needs
@@ -71,7 +71,7 @@ element-set-from-table c = search needs
 of-requires : tie.Need-of-requires
 of-requires c κs =
     let a = c .before .before .before .before .before .before .before .before .before .before .before .args in
-    let f = stored-formed (record { axle = a .axle; identifier = a .identifier .now; ems = a .ems; secret = a .secret .now }) (c .before .before .before .before .before .before .before .before .store-number .result) (c .before .before .before .before .before .before .before .before .store-number .ensures (a .ems)) (c .before .before .before .before .before .before .if1 .taken) in
+    let f = stored-formed (record { axle = a .axle; identifier = a .identifier .now; ems = a .ems; suite = a .suite; secret = a .secret .now }) (c .before .before .before .before .before .before .before .before .store-number .result) (c .before .before .before .before .before .before .before .before .store-number .ensures (a .ems) (a .suite)) (c .before .before .before .before .before .before .if1 .taken) in
     (f .identifier-to, f .secret-is)
 
 mul-pushed : tie.Need-mul-pushed
@@ -80,28 +80,28 @@ mul-pushed c = search needs
 element-copy-out-pushed : tie.Need-element-copy-out-pushed
 element-copy-out-pushed c =
     let a = c .before .before .before .before .before .before .before .before .before .before .before .before .args in
-    let f = stored-formed (record { axle = a .axle; identifier = a .identifier .now; ems = a .ems; secret = a .secret .now }) (c .before .before .before .before .before .before .before .before .before .store-number .result) (c .before .before .before .before .before .before .before .before .before .store-number .ensures (a .ems)) (c .before .before .before .before .before .before .before .if1 .taken) in
+    let f = stored-formed (record { axle = a .axle; identifier = a .identifier .now; ems = a .ems; suite = a .suite; secret = a .secret .now }) (c .before .before .before .before .before .before .before .before .before .store-number .result) (c .before .before .before .before .before .before .before .before .before .store-number .ensures (a .ems) (a .suite)) (c .before .before .before .before .before .before .before .if1 .taken) in
     omega (arith, f .axle-from, f .axle-to)
 
 pushed-requires : tie.Need-pushed-requires
 pushed-requires c κs = search needs
 
-mul-t36 : tie.Need-mul-t36
-mul-t36 c =
+mul-t37 : tie.Need-mul-t37
+mul-t37 c =
     let a = c .before .before .before .before .before .before .before .before .before .before .before .before .before .before .args in
-    let f = stored-formed (record { axle = a .axle; identifier = a .identifier .now; ems = a .ems; secret = a .secret .now }) (c .before .before .before .before .before .before .before .before .before .before .before .store-number .result) (c .before .before .before .before .before .before .before .before .before .before .before .store-number .ensures (a .ems)) (c .before .before .before .before .before .before .before .before .before .if1 .taken) in
+    let f = stored-formed (record { axle = a .axle; identifier = a .identifier .now; ems = a .ems; suite = a .suite; secret = a .secret .now }) (c .before .before .before .before .before .before .before .before .before .before .before .store-number .result) (c .before .before .before .before .before .before .before .before .before .before .before .store-number .ensures (a .ems) (a .suite)) (c .before .before .before .before .before .before .before .before .before .if1 .taken) in
     omega (arith, f .axle-from, f .axle-to)
 
 element-set-from-table-2 : tie.Need-element-set-from-table-2
 element-set-from-table-2 c =
     let a = c .before .before .before .before .before .before .before .before .before .before .before .before .before .before .args in
-    let f = stored-formed (record { axle = a .axle; identifier = a .identifier .now; ems = a .ems; secret = a .secret .now }) (c .before .before .before .before .before .before .before .before .before .before .before .store-number .result) (c .before .before .before .before .before .before .before .before .before .before .before .store-number .ensures (a .ems)) (c .before .before .before .before .before .before .before .before .before .if1 .taken) in
+    let f = stored-formed (record { axle = a .axle; identifier = a .identifier .now; ems = a .ems; suite = a .suite; secret = a .secret .now }) (c .before .before .before .before .before .before .before .before .before .before .before .store-number .result) (c .before .before .before .before .before .before .before .before .before .before .before .store-number .ensures (a .ems) (a .suite)) (c .before .before .before .before .before .before .before .before .before .if1 .taken) in
     omega (arith, f .axle-from, f .axle-to)
 
 returns : tie.Need-returns
 returns c =
     let a = c .before .before .before .before .before .before .before .before .before .before .before .before .before .before .args in
-    let f = stored-formed (record { axle = a .axle; identifier = a .identifier .now; ems = a .ems; secret = a .secret .now }) (c .before .before .before .before .before .before .before .before .before .before .before .store-number .result) (c .before .before .before .before .before .before .before .before .before .before .before .store-number .ensures (a .ems)) (c .before .before .before .before .before .before .before .before .before .if1 .taken) in
+    let f = stored-formed (record { axle = a .axle; identifier = a .identifier .now; ems = a .ems; suite = a .suite; secret = a .secret .now }) (c .before .before .before .before .before .before .before .before .before .before .before .store-number .result) (c .before .before .before .before .before .before .before .before .before .before .before .store-number .ensures (a .ems) (a .suite)) (c .before .before .before .before .before .before .before .before .before .if1 .taken) in
     let i = a .identifier .now in
     let own = a .axle - 1 in
     let own-six : own < 6 = omega (arith, f .axle-from, f .axle-to) in
@@ -116,14 +116,14 @@ returns c =
     (λ w. ap (λ (x : Table). x .queues) (w .3) ∙ one-goes (a .self) i own (v .result .queue) (v .result .place) (v .ensures .0) goes noQueue (w .2 .result) (w .2 .ensures) b k)
     (λ w. ap (λ (x : Table). x .queues) (w .1) ∙ none-goes (a .self) i own (v .result .queue) (v .result .place) (v .ensures .0) goes (numbers .result) (numbers .ensures) (w .0 .left) b k)
     (c .before .before .before .if2 .came) in
-    stores-done (a .self) (record { axle = a .axle; identifier = a .identifier .now; ems = a .ems; secret = a .secret .now }) (c .before .before .before .before .before .before .before .before .before .before .before .store-number .result) (c .before .before .before .before .before .before .before .before .before .before .refuse .result) (c .before .before .before .before .before .before .before .before .before .before .before .store-number .ensures (a .ems)) (c .before .before .before .before .before .before .before .before .before .before .refuse .ensures)
+    stores-done (a .self) (record { axle = a .axle; identifier = a .identifier .now; ems = a .ems; suite = a .suite; secret = a .secret .now }) (c .before .before .before .before .before .before .before .before .before .before .before .store-number .result) (c .before .before .before .before .before .before .before .before .before .before .refuse .result) (c .before .before .before .before .before .before .before .before .before .before .before .store-number .ensures (a .ems) (a .suite)) (c .before .before .before .before .before .before .before .before .before .before .refuse .ensures)
     own noQueue (omega (arith, f .axle-from)) own-six t left (c .before .before .of .result) (c .before .before .of .ensures (a .axle)) (c .pushed .result) (c .pushed .ensures) (c .before .before .before .before .before .before .before .before .before .if1 .taken)
 
 returns-2 : tie.Need-returns-2
 returns-2 c =
     let a = c .before .before .before .before .before .args in
-    stores-refused (a .self) (record { axle = a .axle; identifier = a .identifier .now; ems = a .ems; secret = a .secret .now }) (c .before .before .store-number .result) (c .before .refuse .result)
-    (c .before .before .store-number .ensures (a .ems)) (c .before .refuse .ensures) (c .if1 .left)
+    stores-refused (a .self) (record { axle = a .axle; identifier = a .identifier .now; ems = a .ems; suite = a .suite; secret = a .secret .now }) (c .before .before .store-number .result) (c .before .refuse .result)
+    (c .before .before .store-number .ensures (a .ems) (a .suite)) (c .before .refuse .ensures) (c .if1 .left)
 
 pub store-spec : {M : Type 1} → statement M
 store-spec =
@@ -142,13 +142,13 @@ store-spec =
     mul-without
     element-copy-out-without
     without-requires
-    mul-t30
+    mul-t31
     element-set-from-table
     of-requires
     mul-pushed
     element-copy-out-pushed
     pushed-requires
-    mul-t36
+    mul-t37
     element-set-from-table-2
     returns
     returns-2)
