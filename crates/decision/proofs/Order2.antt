@@ -41,22 +41,18 @@ use Rattle.decision.proofs.Witness.{answered, written, served, one, hel
 
 -- ---- what counts as none
 
+none-either : (x : Bool) → _≡_ {A = Option Original} (pick x none none) none
+none-either true = refl
+none-either false = refl
+
 -- such a session is none, and an empty book has none
 unlisted-none : (axle : ℕ) (h : Hello) (b : Book) → Unlisted axle h b → sessionIn axle (fields h) b ≡ none
 unfolding sessionIn onOffer
-unlisted-none axle h b u = rw (u .known, u .unlisted) (neither (eqb (length (h .identifier)) 0))
-  where
-    neither : (x : Bool) → _≡_ {A = Option Original} (pick x none none) none
-    neither true = refl
-    neither false = refl
+unlisted-none axle h b u = rw (u .known, u .unlisted) (none-either (eqb (length (h .identifier)) 0))
 
 empty-none : (axle : ℕ) (h : Hello) → sessionIn axle (fields h) empty ≡ none
 unfolding sessionIn onOffer book.oldest
-empty-none axle h = neither (eqb (length (h .identifier)) 0)
-  where
-    neither : (x : Bool) → _≡_ {A = Option Original} (pick x none none) none
-    neither true = refl
-    neither false = refl
+empty-none axle h = none-either (eqb (length (h .identifier)) 0)
 
 pub unlisted-is-none : UnlistedIsNone
 unlisted-is-none t t₀ b axle m h c s out out′ out₀′ d d₀ k k₀ r u w w₀ =

@@ -33,6 +33,7 @@ pub(crate) fn server_outcome(session: Known, ems: bool, switches: Switches) -> R
     }
 }
 
+// Of a session: by its EMS and the hello's.
 fn resumable(original_ems: bool, ems: bool, switches: Switches) -> Reached
     ensures { λ r. ⌜ outcomeIn r ≡ resumable switches «original_ems» ems ⌝ }
 {

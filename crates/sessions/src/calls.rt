@@ -190,7 +190,7 @@ impl Table {
             let numbers = self.numbers();
             let i = table.queues[own].find(identifier);
             withdrawn = table.queues[own].taken(i);
-            // as in a store
+            // where none is found, the queue is not copied for nothing
             if i < numbers[own] as usize {
                 table.queues[own] = table.queues[own].without(i);
             }

@@ -5,7 +5,8 @@ ghost use lib.ListN.{length, take};
 ghost use Rattle.sessions.specs.Book.{isNamed};
 ghost use Rattle.sessions.specs.Keeps.{rowOf, noSession, sessionOf};
 
-// The identifier is the first `size` bytes; 0 in `ems` is no, everything else yes.
+// The identifier is the first `size` bytes; 0 in `ems` is no, everything else yes; of the suite the high byte comes first. It is two
+// bytes and no number, so that a table has no padding.
 #[repr(C)]
 pub struct Row {
     pub ems: u8,
