@@ -23,21 +23,22 @@ use Rattle.sessions.specs.Keeps.{tableOf}
 use Rattle.sessions.proofs.Sound.{sound-empty}
 use Rattle.sessions.proofs.Alike.{keeps-table}
 use Rattle.hello.specs.Layout.{big, field, counted, vector}
-use Rattle.hello.specs.Extensions.{shaped, extension, listOf, extensionsOf, has, twice, contentOf, indicationOf}
-use Rattle.hello.specs.Fields.{Hello, fields, opening, closing, clientLayout, lists, helloFault, readClient}
+use Rattle.hello.specs.Extensions.{shaped, extension, listOf, extensionsOf, has, twice, contentOf, indicationOf, othersOf}
+use Rattle.hello.specs.Fields.{Hello, fields, opening, closing, clientLayout, serverLayout, lists, helloFault, readClient, readServer}
 use Rattle.hello.specs.Written.{writtenList, writtenBlock}
 use Rattle.decision.specs.Connection.{freshConnection, closed, wrongFirst, Outcome, legacyFull, fullLegacy, refusedBy, decided, decision}
 use Rattle.decision.specs.Reply.{replyList, replyOf, offerOf}
 use Rattle.decision.specs.Server.{Original, originalOf, onOffer, sessionIn, serverWrong, serverFlag, resumable, serverOutcome, serverReply, serverNumber, serverDecision, serverOutput}
-use Rattle.decision.specs.Client.{Told, told, Lent, weighedOf, badOffer, clientResumes, suiteDiffers, fullness, clientOutcome, clientNumber, clientDecision}
+use Rattle.decision.specs.Client.{Told, told, Lent, weighedOf, badOffer, clientWrong, clientFlag, clientResumes, suiteDiffers, resumption, fullness, clientOutcome, clientNumber, clientDecision}
 use Rattle.decision.specs.Exchanges.{suiteUnlisted, sessionLost, kept, strict}
-use Rattle.decision.specs.Order2.{Unlisted, UnlistedIsNone, UnlistedMet, ServerResumesListed, ClientResumesNamed, Cases}
+use Rattle.decision.specs.Order2.{Unlisted, UnlistedIsNone, UnlistedMet, ServerResumesListed, ClientResumesNamed, ResumedMet, ServerCases, ClientCases}
 use Rattle.decision.specs.declared.connection.Connection.{Connection}
 use Rattle.decision.specs.declared.connection.Switches.{Switches}
 use Rattle.decision.specs.declared.connection.Decision.{Decision}
 use Rattle.decision.proofs.Outcomes.{row-none}
 use Rattle.decision.proofs.Agreement.{no-session}
-use Rattle.decision.proofs.Witness.{answered, written, served, one, hello}
+use Rattle.decision.proofs.Joined.{reply-rule}
+use Rattle.decision.proofs.Witness.{answered, written, served, one, hello, witnesses}
 
 -- ---- what counts as none
 
@@ -195,9 +196,9 @@ unlisted-met =
       accepted = refl;
     }
 
-pub cases : Cases
+pub server-cases : ServerCases
 unfolding firstOf firstFault refusalOf refusalAt byteAt pairAt tripleAt kindOf bodyOf overlong cutOff misstated otherKind big field counted vector shaped extension listOf extensionsOf has twice contentOf indicationOf opening closing clientLayout lists helloFault readClient writtenList writtenBlock closed wrongFirst decided decision refusedBy replyList replyOf onOffer sessionIn serverWrong serverFlag resumable serverOutcome serverReply serverNumber serverDecision same book.oldest book.isName book.isNamed book.badAxle
-cases =
+server-cases =
     record {
       unlisted-full = refl;
       unlisted-six = refl;
@@ -207,3 +208,24 @@ cases =
       unlisted-legacy = refl;
       across = refl;
     }
+
+pub client-cases : ClientCases
+unfolding firstOf firstFault refusalOf refusalAt byteAt pairAt tripleAt kindOf bodyOf overlong cutOff misstated otherKind big field counted vector shaped extension listOf extensionsOf has twice contentOf indicationOf othersOf opening closing serverLayout helloFault readServer closed wrongFirst decided decision refusedBy badOffer clientWrong clientFlag clientResumes suiteDiffers resumption fullness clientOutcome clientNumber clientDecision same
+client-cases =
+    record {
+      named = refl;
+      other = refl;
+      turned = refl;
+      behind-five = refl;
+      before-six = refl;
+      named-six = refl;
+      before-switch = refl;
+      named-switch = refl;
+      full = refl;
+    }
+
+pub resumed-met : ResumedMet
+resumed-met =
+    let x = witnesses .first-resumed in
+    let agree = reply-rule _ _ _ _ _ _ _ _ _ _ _ _ _ _ (x .exchange) in
+    (x, x .outcome, ap yes (agree .resumes) ∙ x .outcome)

@@ -75,7 +75,8 @@ clientFlag c t = pick (later c) true (present (t .ri))
 unfoldable pub clientResumes : List ℕ → Told → Bool
 clientResumes i t = not (isEmpty i) && same (t .identifier) i
 
--- 12. Order 2: 'On the client, a resuming ServerHello must name the session's suite.'
+-- 12. Order 2: 'On the client, a resuming ServerHello must name the session's suite.' RFC 5246, section 7.4.1.3: 'For resumed sessions, this
+-- field is the value from the state of the session being resumed.'
 unfoldable pub suiteDiffers : List ℕ → Original → Told → Bool
 suiteDiffers i k t = clientResumes i t && not (eqb (t .suite) (k .suite))
 

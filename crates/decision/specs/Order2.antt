@@ -2,7 +2,7 @@
 -- suite.' The proofs are proofs/Order2.antt's.
 -- Assumes nothing.
 use mathlib.Core.Path.{_≡_}
-use mathlib.Core.Bool.{true, false}
+use mathlib.Core.Bool.{Bool, true, false}
 use mathlib.Core.List.{List, [], _∷_, _++_}
 use mathlib.Core.Option.{Option, some}
 use Prim.Native.Nat.{ℕ}
@@ -13,10 +13,10 @@ use Rattle.sessions.specs.Keeps.{Keeps}
 use Rattle.sessions.specs.declared.table.Table.{Table}
 use Rattle.hello.specs.Layout.{big}
 use Rattle.hello.specs.Fields.{Hello, fields, lists, readClient, readServer}
-use Rattle.decision.specs.Connection.{freshConnection, fullEms, fullLegacy, resumedLegacy, refusedBy, decided}
+use Rattle.decision.specs.Connection.{freshConnection, fullEms, fullLegacy, resumedEms, resumedLegacy, refusedBy, decided}
 use Rattle.decision.specs.Server.{sessionIn, serverDecision, ServerDecides}
 use Rattle.decision.specs.Client.{Lent, clientDecision}
-use Rattle.decision.specs.Exchanges.{head, emptyRi, ems, kept}
+use Rattle.decision.specs.Exchanges.{head, emptyRi, ems, kept, lent, Meets, firstResumed}
 use Rattle.decision.specs.declared.connection.Connection.{Connection}
 use Rattle.decision.specs.declared.connection.Switches.{Switches}
 use Rattle.decision.specs.declared.connection.Decision.{Decision}
@@ -70,6 +70,10 @@ ClientResumesNamed =
     (m i : List ℕ) (h : Hello) (l : Option Lent) (c : Connection) (s : Switches) (d : Decision) → readServer m ≡ fields h
     → d ≡ clientDecision (readServer m) i l c s → yes (d .resumes) ≡ true → (k : Lent) × (l ≡ some k) × (big (h .suites) ≡ k .original .suite)
 
+-- what both suppose can be met: by the two calls of an exchange that resumes
+abbrev pub ResumedMet : Type 0
+ResumedMet = (x : Meets firstResumed) × (yes (x .server .resumes) ≡ true) × (yes (x .client .resumes) ≡ true)
+
 -- ---- 'What counts as none is none before document 01's outcomes and RFC 7627 section 5.3 are asked': computed, for axle 3 and a hello
 -- that names the session 07 of that axle and lists 00 2f and 00 9c
 
@@ -92,7 +96,7 @@ abbrev pub decidedOn : List ℕ → Book → Switches → Decision
 decidedOn m b s = serverDecision 3 (readClient m) (sessionIn 3 (readClient m) b) freshConnection s (replicate 35 0)
 
 -- the session has EMS or not, and a suite; the reply is 7 bytes of RI, and 4 of EMS
-pub record Cases : Type 0 where
+pub record ServerCases : Type 0 where
   -- with EMS, of 00 35, which isn't listed; the hello has none: full, if legacy full is allowed,
   pub unlisted-full : decidedOn withoutEms (kept true 0x0035) (legacy 1 0) ≡ decided fullLegacy true 7
   -- else 6, whatever is allowed of resumption
@@ -105,3 +109,34 @@ pub record Cases : Type 0 where
   pub unlisted-legacy : decidedOn withoutEms (kept false 0x0035) (legacy 1 1) ≡ decided fullLegacy true 7
   -- 2f 00 stands across two suites, and 2f 00 is not 00 2f
   pub across : decidedOn withEms (kept true 0x2f00) (legacy 0 0) ≡ decided fullEms true 11
+
+-- ---- 'On the client .. a new 12, .. directly before 6': computed, for a client that offered the session 07 of the suite 00 2f
+
+-- a ServerHello that names an identifier of one byte and a suite
+abbrev pub answerOf : ℕ → ℕ → ℕ → ℕ → ℕ → List ℕ → List ℕ
+answerOf size identifier high low block extensions =
+    head 0x02 size ++ (0x01 ∷ identifier ∷ high ∷ low ∷ 0x00 ∷ 0x00 ∷ block ∷ []) ++ extensions
+
+-- an RI that is wrong in a first handshake
+abbrev pub wrongRi : List ℕ
+wrongRi = 0xff ∷ 0x01 ∷ 0x00 ∷ 0x02 ∷ 0x01 ∷ 0x00 ∷ []
+
+-- the decision on it; the session has EMS or not
+abbrev pub judgedOn : List ℕ → Bool → Switches → Decision
+judgedOn m e s = clientDecision (readServer m) (0x07 ∷ []) (lent e 0x002f) freshConnection s
+
+pub record ClientCases : Type 0 where
+  -- it resumes with the session's suite
+  pub named : judgedOn (answerOf 0x32 0x07 0x00 0x2f 0x09 (emptyRi ++ ems)) true (legacy 0 0) ≡ decided resumedEms true 0
+  -- with another one, and with the two bytes the other way round
+  pub other : judgedOn (answerOf 0x32 0x07 0x00 0x35 0x09 (emptyRi ++ ems)) true (legacy 0 0) ≡ refusedBy 12 0
+  pub turned : judgedOn (answerOf 0x32 0x07 0x2f 0x00 0x09 (emptyRi ++ ems)) true (legacy 0 0) ≡ refusedBy 12 0
+  -- behind 5: another suite beside a wrong RI
+  pub behind-five : judgedOn (answerOf 0x33 0x07 0x00 0x35 0x0a (wrongRi ++ ems)) true (legacy 0 0) ≡ refusedBy 5 0
+  -- before 6: beside another EMS than the session's, and where legacy resumption is not allowed; with the session's suite these are 6
+  pub before-six : judgedOn (answerOf 0x2e 0x07 0x00 0x35 0x05 emptyRi) true (legacy 1 1) ≡ refusedBy 12 0
+  pub named-six : judgedOn (answerOf 0x2e 0x07 0x00 0x2f 0x05 emptyRi) true (legacy 1 1) ≡ refusedBy 6 0
+  pub before-switch : judgedOn (answerOf 0x2e 0x07 0x00 0x35 0x05 emptyRi) false (legacy 1 0) ≡ refusedBy 12 0
+  pub named-switch : judgedOn (answerOf 0x2e 0x07 0x00 0x2f 0x05 emptyRi) false (legacy 1 0) ≡ refusedBy 6 0
+  -- in a ServerHello that does not resume the suite is not judged
+  pub full : judgedOn (answerOf 0x32 0x08 0x00 0x35 0x09 (emptyRi ++ ems)) true (legacy 0 0) ≡ decided fullEms true 0
