@@ -16,6 +16,7 @@ use Rattle.seqs.proofs.Flag.{yes-bit}
 use Rattle.seqs.specs.Cases.{by-test}
 use Rattle.refusal.specs.First.{firstOf}
 use Rattle.octets.specs.Same.{same}
+use Rattle.octets.specs.Equal.{same-refl}
 use Rattle.sessions.specs.Book.{Book, sought, badAxle}
 use Rattle.hello.specs.Extensions.{Extension, has, contentOf, indicationOf, emsOf, othersOf}
 use Rattle.hello.specs.Layout.{big}
@@ -31,11 +32,6 @@ use Rattle.decision.specs.declared.connection.Connection.{Connection}
 use Rattle.decision.specs.declared.connection.Switches.{Switches}
 use Rattle.decision.specs.declared.connection.Decision.{Decision}
 use Rattle.decision.proofs.Serving.{decision-number}
-
-same-self : (l : List ℕ) → same l l ≡ true
-unfolding same
-same-self [] = refl
-same-self (x ∷ l) = rw (eq-eqb x x refl) (same-self l)
 
 -- ---- what our own hello asks: RI with what the offer holds, EMS, and no signal
 
@@ -82,8 +78,8 @@ module _ (c : Connection) (s : Switches) (t : Told) (ri : t .ri ≡ some (held c
   right = rw ri (go (later c))
     where
       go : (x : Bool) → pick x (not (same (pick x (c .client ++ c .server) []) (c .client ++ c .server))) (not (same (pick x (c .client ++ c .server) []) [])) ≡ false
-      go true = rw (same-self (c .client ++ c .server))
-      go false = rw (same-self [])
+      go true = rw (same-refl (c .client ++ c .server))
+      go false = rw (same-refl [])
 
   flagged : clientFlag c t ≡ true
   unfolding clientFlag
@@ -235,7 +231,7 @@ module _ (axle : ℕ) (b : Book) (c : Connection) (s s′ : Switches) (r : Readi
   good-offer =
       by-test (eqb (length i) 0)
       (λ p. rw (le-ltb 32 (length i) (x .short), p))
-      (λ p. rw (le-ltb 32 (length i) (x .short), p, x .shares .client (eqb-false _ _ p), same-self i))
+      (λ p. rw (le-ltb 32 (length i) (x .short), p, x .shares .client (eqb-false _ _ p), same-refl i))
 
   -- both decisions, where both outcomes are o
   agree : (o : Outcome) → serverOutcome s session true ≡ some o → suiteDiffers i (weighedOf l) tells ≡ false → clientOutcome s′ i (weighedOf l) tells ≡ some o

@@ -108,10 +108,6 @@ server-resumes-listed t b axle m h c s out out′ d k r w y =
 
 -- ---- the client
 
-module _ (i : List ℕ) (l : Option Lent) (h : Hello) where
-  abbrev Named : Type 0
-  Named = (k : Lent) × (l ≡ some k) × (big (h .suites) ≡ k .original .suite)
-
 -- an offer that is good is that of a session
 lent-offer : (i : List ℕ) (l : Option Lent) → eqb (length i) 0 ≡ false → badOffer i l ≡ false → (k : Lent) × (l ≡ some k)
 unfolding badOffer
@@ -166,7 +162,7 @@ module _ (i : List ℕ) (h : Hello) (l : Option Lent) (c : Connection) (s : Swit
         (λ z. eqb-true _ _ z)
         (λ z. absurd (false≢true (sym (rw (resumes, z) at (good .1)))))
 
-    client-named : Named i l h
+    client-named : (k : Lent) × (l ≡ some k) × (big (h .suites) ≡ k .original .suite)
     client-named = let k = lent-offer i l some-offer (good .0) in (k .0, k .1, named ∙ ap (λ (x : Option Lent). weighedOf x .suite) (k .1))
 
 pub client-resumes-named : ClientResumesNamed
