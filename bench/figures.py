@@ -177,6 +177,19 @@ def by_message(figures):
     return growth(figures, "bytes", "feeding a log", LIBRARIES)
 
 
+def by_parts(figures):
+    """A message that enters the log by parts, beside the single call."""
+    work = "a Certificate by parts"
+    rows = []
+    for size in figures.sizes(work):
+        calls = figures.spread("parts of a Certificate", size, OURS)[0]
+        longest, all_calls = (time(figures.spread(name, size, OURS)) for name in ("the longest part", work))
+        rows.append([size, f"{calls:.0f}", longest, all_calls, share(figures.spread(work, size, OURS, True))])
+    single = time(figures.spread(work, rows[-1][0], "single call"))
+    rows.append(["single call", "1", single, single, ""])
+    return table(["allowance, blocks", "calls", "the longest call", "all calls", "all calls over the single call"], rows)
+
+
 def by_sessions(figures):
     works = ["store by axle 6", "look-up of the youngest", "number held"]
     rows = [[size, *(time(figures.spread(work, size, OURS)) for work in works)] for size in figures.sizes(works[0])]
@@ -214,6 +227,7 @@ PARTS = {
     "worst": worst,
     "length": by_length,
     "message": by_message,
+    "parts": by_parts,
     "held": by_sessions,
     "stack": stack,
 }

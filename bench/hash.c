@@ -45,12 +45,6 @@ static void openssl(void)
 
 static void mbedtls(void) { mbedtls_sha256_ret(input, length, digest, 0); }
 
-static void accept(void) /* of a handshake message, into a log */
-{
-    AxleAccepted answer = axle_log_accept(axle_log_fresh(), input, length, 0);
-    digest[0] = answer.refusal.number;
-}
-
 #ifdef BEFORE
 #include "before.h"
 
@@ -104,18 +98,6 @@ int main(int argc, char **argv)
     for (int k = 0; k < COUNT(fed); k++) {
         length = fed[k];
         contest("feeding a hash", (long)length, feeding, some ? 2 : COUNT(feeding), to);
-    }
-    for (int k = 0; k < COUNT(fed) && !some; k++) {
-        length = fed[k];
-        if (length < 4 || length > AXLE_MESSAGE_MAX)
-            continue;
-        memcpy(input, (uint8_t[]){1, 0, (uint8_t)((length - 4) >> 8), (uint8_t)(length - 4)}, 4);
-        accept();
-        if (digest[0] != AXLE_DONE) {
-            fprintf(stderr, "bench: a log does not accept a ClientHello of %zu bytes: %d\n", length, digest[0]);
-            return 1;
-        }
-        side_by_side("feeding a log", (long)length, (contestant[]){{"this library", accept}}, 1);
     }
     return 0;
 }

@@ -81,6 +81,16 @@ static void accept(AxleLog *log, const uint8_t *bytes, size_t length, uint8_t re
     done(axle_log_accept_in(log, bytes, length, resumes), "a message");
 }
 
+/* A long message by parts, of 16 hash blocks at most: what else waits has its turn between them. */
+static void feed(AxleLog *log, const uint8_t *rest, size_t length)
+{
+    while (length > 0) {
+        size_t taken;
+        done(axle_log_feed_in(log, rest, length, 16, 0, &taken, NULL), "a part of a message");
+        rest += taken, length -= taken;
+    }
+}
+
 /* Both Finished, as each is due: its value is asked for, and the message is checked and taken as by the peer. */
 static void finish(AxleLog *log, const uint8_t *secret)
 {
@@ -130,7 +140,9 @@ int main(void)
     uint8_t bytes[64], secret[AXLE_SECRET_SIZE];
 
     AxleDecision decision = hellos(&log, table, NULL, 0, secret);
-    static const uint8_t between[] = {CERTIFICATE, HELLO_DONE, KEY_EXCHANGE};
+    static uint8_t certificate[AXLE_MESSAGE_MAX], body[AXLE_MESSAGE_MAX - 4];
+    feed(&log, certificate, message(certificate, CERTIFICATE, body, sizeof body));
+    static const uint8_t between[] = {HELLO_DONE, KEY_EXCHANGE};
     for (size_t i = 0; i < sizeof between; i++)
         accept(&log, bytes, message(bytes, between[i], bytes, 0), 0);
     AxleSessionHash session = axle_log_session_hash(log);

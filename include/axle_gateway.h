@@ -49,10 +49,10 @@ extern "C" {
 /* The first number is 0 for as long as a struct or a call may change from one minor version to the next; a patch changes
  * neither. So the shared library's soname has the first two. tools/build reads the numbers here. */
 #define AXLE_GATEWAY_VERSION_MAJOR 0
-#define AXLE_GATEWAY_VERSION_MINOR 7
+#define AXLE_GATEWAY_VERSION_MINOR 8
 #define AXLE_GATEWAY_VERSION_PATCH 0
-#define AXLE_GATEWAY_VERSION "0.7.0"
-/* for #if: 700 is 0.7.0, 10203 is 1.2.3 */
+#define AXLE_GATEWAY_VERSION "0.8.0"
+/* for #if: 800 is 0.8.0, 10203 is 1.2.3 */
 #define AXLE_GATEWAY_VERSION_NUMBER \
     (AXLE_GATEWAY_VERSION_MAJOR * 10000 + AXLE_GATEWAY_VERSION_MINOR * 100 + AXLE_GATEWAY_VERSION_PATCH)
 
@@ -74,7 +74,8 @@ enum {
 enum {
     AXLE_AXLES = 6,             /* axles are numbered from 1 */
     AXLE_SESSIONS_MAX = 32,     /* sessions in a table */
-    AXLE_SESSIONS_AN_AXLE = 8   /* sessions of one axle */
+    AXLE_SESSIONS_AN_AXLE = 8,  /* sessions of one axle */
+    AXLE_ALLOWANCE_MOST = 256   /* hash blocks that axle_log_feed may be allowed a call */
 };
 
 /* Overwrites with zeros, and is not optimised away. */
@@ -483,12 +484,22 @@ typedef struct {
     uint8_t session[32];
     uint8_t client[12];
     uint8_t server[12];
+    uint8_t kind;  /* of a message between its parts: its type, */
+    uint8_t next;  /* the place that it leads to, */
+    uint16_t left; /* how many bytes of it are left. All 0 where there is none */
 } AxleLog;
 
 typedef struct {
     AxleRefusal refusal; /* 0, 1 with its place, 7 or 10; of axle_log_finish 8 besides */
     AxleLog log;         /* the next state; refused: the one passed */
 } AxleAccepted;
+
+typedef struct {
+    AxleRefusal refusal; /* 0, 1 with its place, 7 or 10 */
+    AxleLog log;         /* the next state; refused: the one passed */
+    size_t taken;        /* how many bytes, from the front of the rest, have entered the log; refused: 0 */
+    size_t blocks;       /* how many hash blocks, of 64 bytes each, were worked with them; refused: 0 */
+} AxleFed;
 
 typedef struct {
     AxleRefusal refusal; /* 0 or 7 */
@@ -505,7 +516,7 @@ AxleLog axle_log_fresh(void);
 
 /* Accepts the next handshake message, header included, or refuses it: 10 over 16,388 bytes, 1 malformed, 7 out of turn.
  * `resumes` tells, with a ServerHello, whether it resumes; with other messages it is of no account. A Finished of 12 bytes is
- * 7 here, due or not: axle_log_finish takes it.
+ * 7 here, due or not: axle_log_finish takes it. Between the parts of a message (axle_log_feed) every other one is 7, type 0 too.
  *
  * The log judges the header alone, so a malformed message broke where under 4 bytes end (the place is how many there are), or at
  * its length, place 1: it is not that of the body, not 0 with type 0, or not 12 with a Finished. */
@@ -519,14 +530,60 @@ static inline AxleRefusal axle_log_accept_in(AxleLog *log, const uint8_t *messag
     return answer.refusal;
 }
 
-/* The session hash of RFC 7627: over ClientHello through ClientKeyExchange. 7 before that, and in a resumed handshake. */
+/* The same, but part by part, so that a long message does not keep others waiting: a call works at most `allowance` blocks of
+ * the hash, 1 to 256. It is lent all of the message that is not yet taken: first the whole of it, header included, then what the
+ * call before left. With h bytes waiting in the hash (all that were hashed so far, those of this message too, modulo 64) it takes
+ * the smaller of `length` and 64 * (allowance + 1) - 1 - h: one more would complete a block too many. The call that takes all it
+ * is lent accepts the message, and hands back the very log that axle_log_accept gives on the bytes taken:
+ *
+ *     do {
+ *         AxleFed fed = axle_log_feed(log, rest, length, 16, resumes);
+ *         if (fed.refusal.number != AXLE_DONE)
+ *             return fed.refusal;
+ *         log = fed.log, rest += fed.taken, length -= fed.taken;
+ *         others_turn();
+ *     } while (length > 0);
+ *
+ * With an allowance of 1, 300 bytes enter a fresh log as 127, 64, 64 and 45, with one block each time. A call that is not refused
+ * takes 64 bytes or more, or all that is left. Type 0 is one call: it takes its 4 bytes, works no block and leaves the log.
+ *
+ * Header, turn and whole length are judged before the first byte is taken; behind it only the lengths are. Refused, with the log
+ * as it was, no byte taken and no block worked, by the first of these that applies:
+ *   10  with any part: allowance not 1 to 256
+ *   10, 1, 7  with the first: as axle_log_accept refuses the message, so with 7 a Finished, due or not
+ *   10  with a later one: another length than is left, whatever the bytes
+ * `resumes` counts with the first part of a ServerHello, and is not asked with later ones. Only bytes taken count: those that were
+ * lent and left may be other ones the next time.
+ *
+ * Between the parts every other call that takes the log is 7, after its 10 and 1: the message is accepted when it is whole, and
+ * not before. No call gives it up; a caller that may have to keeps the log from before.
+ *
+ * With the last part of a ClientKeyExchange the session hash is made. The one or two blocks of padding that this works are
+ * neither allowed for nor counted. */
+AxleFed axle_log_feed(AxleLog log, const uint8_t *rest, size_t length, size_t allowance, uint8_t resumes);
+
+/* The same, on a log in place: `taken` and `blocks` take the answer's numbers, 0 where refused; either may be NULL. */
+static inline AxleRefusal axle_log_feed_in(AxleLog *log, const uint8_t *rest, size_t length, size_t allowance, uint8_t resumes,
+                                           size_t *taken, size_t *blocks)
+{
+    AxleFed answer = axle_log_feed(*log, rest, length, allowance, resumes);
+    *log = answer.log;
+    if (taken != NULL)
+        *taken = answer.taken;
+    if (blocks != NULL)
+        *blocks = answer.blocks;
+    return answer.refusal;
+}
+
+/* The session hash of RFC 7627: over ClientHello through ClientKeyExchange. 7 before that, in a resumed handshake, and between
+ * the parts of a message: so between those of a CertificateVerify, and when that is whole it is the same again. */
 AxleSessionHash axle_log_session_hash(AxleLog log);
 
 /* Checks a Finished against this 48-byte master secret and takes it: the log has then accepted it. Refused, with the log as it
  * was, by the first of these that applies:
  *   10  secret not of 48 bytes; message over 16,388
  *    1  malformed, with the place that axle_log_accept has; the body of a Finished has 12 bytes
- *    7  another type than Finished, in turn or not; no Finished due
+ *    7  another type than Finished, in turn or not; no Finished due, as between the parts of a message
  *    8  its value differs
  * The values are compared without an early exit. */
 AxleAccepted axle_log_finish(AxleLog log, const uint8_t *secret, size_t secret_length, const uint8_t *message,
@@ -541,7 +598,8 @@ static inline AxleRefusal axle_log_finish_in(AxleLog *log, const uint8_t *secret
     return answer.refusal;
 }
 
-/* verify_data of the Finished that is due. 10 for a secret not of 48 bytes, 7 where none is due. */
+/* verify_data of the Finished that is due. 10 for a secret not of 48 bytes, 7 where none is due, as between the parts of a
+ * message. */
 AxleExpected axle_log_expected_finished(AxleLog log, const uint8_t *secret, size_t secret_length);
 
 /* ---- Completion ------------------------------------------------------------------------------------------------- */
@@ -559,12 +617,12 @@ AxleRefusal axle_complete(AxleConnection *connection, AxleLog log, AxleDecision 
 enum {
     AXLE_STACK_REFUSAL = 8,
     AXLE_STACK_HASH_FRESH = 8,
-    AXLE_STACK_HASH_ABSORB = 800,
+    AXLE_STACK_HASH_ABSORB = 816,
     AXLE_STACK_HASH_DIGEST = 528,
-    AXLE_STACK_SHA256 = 704,
-    AXLE_STACK_HMAC = 1056,
-    AXLE_STACK_EXTENDED_MASTER_SECRET = 1568,
-    AXLE_STACK_MASTER_SECRET = 1712,
+    AXLE_STACK_SHA256 = 736,
+    AXLE_STACK_HMAC = 1072,
+    AXLE_STACK_EXTENDED_MASTER_SECRET = 1584,
+    AXLE_STACK_MASTER_SECRET = 1744,
     AXLE_STACK_READ_CLIENT_HELLO = 800,
     AXLE_STACK_READ_SERVER_HELLO = 704,
     AXLE_STACK_NEXT_EXTENSION = 8,
@@ -580,9 +638,10 @@ enum {
     AXLE_STACK_DECIDE_SERVER = 6024,
     AXLE_STACK_DECIDE_CLIENT = 768,
     AXLE_STACK_LOG_FRESH = 8,
-    AXLE_STACK_LOG_ACCEPT = 1184,
+    AXLE_STACK_LOG_ACCEPT = 992,
+    AXLE_STACK_LOG_FEED = 1072,
     AXLE_STACK_LOG_SESSION_HASH = 224,
-    AXLE_STACK_LOG_FINISH = 1872,
+    AXLE_STACK_LOG_FINISH = 1904,
     AXLE_STACK_LOG_EXPECTED_FINISHED = 1440,
     AXLE_STACK_COMPLETE = 264
 };

@@ -1,5 +1,5 @@
-"""Document 01, 'The message log'; document 02, order 6, 'Join the Finished check and the taking', and order 9, 'Tell us where
-the message broke'."""
+"""Document 01, 'The message log'; document 02, order 4, 'Feed a message by allowance', order 6, 'Join the Finished check and the
+taking', and order 9, 'Tell us where the message broke'."""
 
 import hashlib
 import re
@@ -12,6 +12,9 @@ from .secrets import verify_data
 LETTER = {1: "a", 2: "b", 11: "c", 12: "k", 13: "r", 14: "d", 15: "v", 16: "x"}
 FULL = ["abc?k?dxCS", "abc?k?rdcxv?CS"]  # without and with a CertificateRequest
 RESUMED = ["abSC"]
+
+BLOCK = 64  # bytes
+ALLOWANCES = range(1, 257)  # blocks that a part may be allowed
 
 
 def _beginnings(order):
@@ -36,9 +39,12 @@ class Log:
         self.resumed = False
         self.session = None
         self.values = {}
+        self.begun = None  # of a message between its parts: the bytes taken, how many it has in all, and what was told
 
     def _due(self):
         """'C', 'S' or None: whose Finished is due."""
+        if self.begun:
+            return None
         for side in "CS":
             if "b" in self.word and in_order(self.word + side, self.resumed):
                 return side
@@ -58,23 +64,58 @@ class Log:
             return 1, 1  # "a Finished or type 0 body of wrong length gives 1, the place of the length"
         return None
 
-    def accept(self, message, resumes=False):
-        """(number, place)"""
+    def _judged(self, message):
+        """(number, place) of a whole message, before any of it is taken."""
         fault = self._fault(message)
         if fault:
             return fault
+        if self.begun:
+            return 7, 0  # "7 for another log call between parts", type 0 too
+        letter = LETTER.get(message[0])  # a Finished has none: it is for `finish`
+        if message[0] != 0 and (letter is None or not in_order(self.word + letter, self.resumed)):
+            return 7, 0
+        return 0, 0
+
+    def _accept(self, message, resumes):
+        """A message that was judged and is whole."""
         kind = message[0]
         if kind == 0:
-            return 0, 0
-        letter = LETTER.get(kind)  # a Finished has none: it is for `finish`
-        if letter is None or not in_order(self.word + letter, self.resumed):
-            return 7, 0
+            return
         if kind == 2:
             self.resumed = resumes
-        self._take(letter, message)
+        self._take(LETTER[kind], message)
         if kind == 16:
             self.session = hashlib.sha256(self.hashed).digest()
-        return 0, 0
+
+    def accept(self, message, resumes=False):
+        """(number, place)"""
+        number, place = self._judged(message)
+        if not number:
+            self._accept(message, resumes)
+        return number, place
+
+    def feed(self, rest, allowance, resumes=False):
+        """(number, place, bytes taken, blocks worked)"""
+        if allowance not in ALLOWANCES:
+            return 10, 0, 0, 0
+        if not self.begun:  # "judged before the first byte is taken"
+            number, place = self._judged(rest)
+            if number:
+                return number, place, 0, 0
+            if rest[0] == 0:
+                return 0, 0, len(rest), 0  # "Type 0 takes no blocks"
+        got, whole, told = self.begun or (b"", len(rest), resumes)
+        if len(rest) != whole - len(got):
+            return 10, 0, 0, 0
+        before = len(self.hashed) + len(got)
+        # "the smaller of what is left and 64(k+1)-1-h bytes"
+        taken = min(len(rest), BLOCK * (allowance + 1) - 1 - before % BLOCK)
+        got += rest[:taken]
+        self.begun = (got, whole, told)
+        if len(got) == whole:
+            self.begun = None
+            self._accept(got, told)
+        return 0, 0, taken, (before + taken) // BLOCK - before // BLOCK
 
     def _take(self, letter, message):
         self.word += letter
@@ -82,7 +123,7 @@ class Log:
 
     def session_hash(self):
         """(number, hash)"""
-        return (7, bytes(32)) if self.session is None else (0, self.session)
+        return (7, bytes(32)) if self.session is None or self.begun else (0, self.session)
 
     def _value(self, secret, side):
         return verify_data(secret, side == "S", hashlib.sha256(self.hashed).digest())

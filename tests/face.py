@@ -226,11 +226,18 @@ class Log(c.Structure):
         ("session", u8 * 32),
         ("client", u8 * 12),
         ("server", u8 * 12),
+        ("kind", u8),
+        ("next", u8),
+        ("left", u16),
     ]
 
 
 class Accepted(c.Structure):
     _fields_ = [("refusal", Refusal), ("log", Log)]
+
+
+class Fed(c.Structure):
+    _fields_ = [("refusal", Refusal), ("log", Log), ("taken", size), ("blocks", size)]
 
 
 class SessionHash(c.Structure):
@@ -244,6 +251,7 @@ class Expected(c.Structure):
 sizeof_log = c.sizeof(Log)
 log_fresh = declare("axle_log_fresh", Log)
 log_accept = declare("axle_log_accept", Accepted, Log, BYTES, u8)
+log_feed = declare("axle_log_feed", Fed, Log, BYTES, size, u8)
 log_session_hash = declare("axle_log_session_hash", SessionHash, Log)
 log_finish = declare("axle_log_finish", Accepted, Log, BYTES, BYTES)
 log_expected_finished = declare("axle_log_expected_finished", Expected, Log, BYTES)

@@ -1,6 +1,6 @@
 /* What include/axle_gateway.h says beside the calls: versions, sizes, parts of what is absent, places, NULL with length 0, the lists
- * of a writer, suites, the functions that keep a state in place, and what a table has left of sessions given up. It is C99 and C++ at
- * once; each case that is not so is a line, and the last line counts them all. */
+ * of a writer, suites, the functions that keep a state in place, what a table has left of sessions given up, and a message that enters
+ * by parts. It is C99 and C++ at once; each case that is not so is a line, and the last line counts them all. */
 #include "axle_gateway.h"
 
 #include <stdio.h>
@@ -55,8 +55,8 @@ static size_t hello(uint8_t *to, uint8_t type, const uint8_t *rest, size_t lengt
 
 /* ---- Version and sizes ------------------------------------------------------------------------------------------- */
 
-#if AXLE_GATEWAY_VERSION_NUMBER < 700
-#error "older than 0.7.0"
+#if AXLE_GATEWAY_VERSION_NUMBER < 800
+#error "older than 0.8.0"
 #endif
 
 static void versions(void)
@@ -82,6 +82,11 @@ static void sizes(void)
     bytes[0] = CLIENT_HELLO, bytes[2] = (AXLE_MESSAGE_MAX - 4) >> 8, bytes[3] = (AXLE_MESSAGE_MAX - 4) & 255;
     IS(axle_log_accept(axle_log_fresh(), bytes, AXLE_MESSAGE_MAX, 0).refusal.number == AXLE_DONE);
     IS(axle_log_accept(axle_log_fresh(), bytes, AXLE_MESSAGE_MAX + 1, 0).refusal.number == AXLE_LENGTH);
+    IS(axle_log_feed(axle_log_fresh(), bytes, AXLE_MESSAGE_MAX, AXLE_ALLOWANCE_MOST, 0).taken == AXLE_MESSAGE_MAX);
+    IS(axle_log_feed(axle_log_fresh(), bytes, AXLE_MESSAGE_MAX, AXLE_ALLOWANCE_MOST, 0).blocks == AXLE_ALLOWANCE_MOST);
+    IS(axle_log_feed(axle_log_fresh(), bytes, AXLE_MESSAGE_MAX, AXLE_ALLOWANCE_MOST + 1, 0).refusal.number == AXLE_LENGTH);
+    IS(axle_log_feed(axle_log_fresh(), bytes, AXLE_MESSAGE_MAX, 0, 0).refusal.number == AXLE_LENGTH);
+    IS(axle_log_feed(axle_log_fresh(), bytes, AXLE_MESSAGE_MAX + 1, AXLE_ALLOWANCE_MOST, 0).refusal.number == AXLE_LENGTH);
     IS(axle_log_finish(axle_log_fresh(), secret, AXLE_SECRET_SIZE, bytes, AXLE_MESSAGE_MAX).refusal.number == AXLE_OUT_OF_TURN);
     IS(axle_log_finish(axle_log_fresh(), secret, AXLE_SECRET_SIZE, bytes, AXLE_MESSAGE_MAX + 1).refusal.number == AXLE_LENGTH);
     IS(axle_log_finish(axle_log_fresh(), bytes, AXLE_SECRET_SIZE + 1, bytes, AXLE_MESSAGE_MAX).refusal.number == AXLE_LENGTH);
@@ -120,6 +125,7 @@ static void sizes(void)
         axle_table_store_in(&table, 1, &i, 1, 0, SUITE, secret, sizeof secret);
     IS(axle_table_held(table, 1).count == AXLE_SESSIONS_AN_AXLE);
     IS(sizeof(AxleTable) == 4038 && sizeof(AxleTable) == AXLE_AXLES * (AXLE_SESSIONS_AN_AXLE * (2 + 2 + 32 + AXLE_SECRET_SIZE) + 1));
+    IS(sizeof(AxleLog) == 168 && sizeof(AxleFed) == sizeof(AxleRefusal) + sizeof(AxleLog) + 2 * sizeof(size_t));
     IS(sizeof(AxleStored) == 4056 && sizeof(AxleWithdrawn) == 4056 && sizeof(AxleCleared) == 4056);
     IS(sizeof axle_log_expected_finished(axle_log_fresh(), secret, sizeof secret).value == AXLE_VERIFY_DATA_SIZE);
 }
@@ -209,6 +215,10 @@ static void places(void)
     IS(broke(axle_log_accept_in(&log, type_0, 3, 0), AXLE_MALFORMED, 3));
     IS(broke(axle_log_accept_in(&log, type_0, sizeof type_0, 0), AXLE_MALFORMED, 1));
     IS(broke(axle_log_accept_in(&log, out_of_turn, sizeof out_of_turn, 0), AXLE_OUT_OF_TURN, 0));
+    IS(broke(axle_log_feed_in(&log, type_0, 3, 1, 0, NULL, NULL), AXLE_MALFORMED, 3));
+    IS(broke(axle_log_feed_in(&log, type_0, sizeof type_0, 1, 0, NULL, NULL), AXLE_MALFORMED, 1));
+    IS(broke(axle_log_feed_in(&log, type_0, sizeof type_0, 0, 0, NULL, NULL), AXLE_LENGTH, 0));
+    IS(broke(axle_log_feed_in(&log, out_of_turn, sizeof out_of_turn, 1, 0, NULL, NULL), AXLE_OUT_OF_TURN, 0));
     IS(broke(axle_log_finish_in(&log, secret, sizeof secret, type_0, 2), AXLE_MALFORMED, 2));
     IS(broke(axle_log_finish_in(&log, secret, sizeof secret - 1, type_0, 2), AXLE_LENGTH, 0));
 }
@@ -366,6 +376,10 @@ static void nulls(void)
     n = hello(to, SERVER_HELLO, out, 0);
     IS(axle_decide_client(to, n, NULL, 0, 0, NULL, 0, 0, 0, fresh, legacy).refusal.number == AXLE_DONE);
     IS(axle_log_accept(axle_log_fresh(), NULL, 0, 0).refusal.number == AXLE_MALFORMED);
+    IS(axle_log_feed(axle_log_fresh(), NULL, 0, 1, 0).refusal.number == AXLE_MALFORMED);
+    IS(axle_log_feed(axle_log_feed(axle_log_fresh(), bytes, message(bytes, CLIENT_HELLO, data, 200), 1, 0).log, NULL, 0, 1, 0)
+           .refusal.number
+       == AXLE_LENGTH);
     IS(axle_log_finish(axle_log_fresh(), NULL, 0, NULL, 0).refusal.number == AXLE_LENGTH);
     IS(axle_log_finish(axle_log_fresh(), secret, sizeof secret, NULL, 0).refusal.number == AXLE_MALFORMED);
     IS(axle_log_expected_finished(axle_log_fresh(), NULL, 0).refusal.number == AXLE_LENGTH);
@@ -443,10 +457,10 @@ static void given_up(void)
     IS(same(&other, &fresh, sizeof other));
 }
 
-/* In every field: the last one ends where the padding begins. */
+/* In every field: there is padding before and behind the last one. */
 static int same_log(AxleLog a, AxleLog b)
 {
-    return same(&a, &b, offsetof(AxleLog, server) + sizeof a.server);
+    return same(&a, &b, offsetof(AxleLog, next) + sizeof a.next) && a.left == b.left;
 }
 
 /* A Finished that is refused, by either call, leaves the log; with the right value it is taken, and the number of the same message
@@ -498,6 +512,44 @@ static void log_in_place(void)
     IS(axle_log_expected_finished(log, secret, sizeof secret).refusal.number == AXLE_OUT_OF_TURN);
 }
 
+/* The example of the header, 300 bytes by an allowance of 1; between its parts every other call is refused, and so is a rest of
+ * another length: the log stays. */
+static void fed_in_place(void)
+{
+    static const size_t parts[] = {127, 64, 64, 45};
+    static const uint8_t type_0[] = {0, 0, 0, 0}, finished[16] = {FINISHED, 0, 0, 12};
+    const AxleDecision decision = {{0, 0, 0, 0}, 0, 0, 0, 0, 0, 0, 0};
+    AxleConnection connection = axle_connection_fresh();
+    AxleLog log = axle_log_fresh(), between;
+    AxleFed answer;
+    size_t i, at = 0, taken = 7, blocks = 7, n = message(bytes, CLIENT_HELLO, data, 296);
+    IS(n == 300);
+    for (i = 0; i < 4; i++) {
+        answer = axle_log_feed(log, bytes + at, n - at, 1, 0);
+        IS(answer.refusal.number == AXLE_DONE && answer.taken == parts[i] && answer.blocks == 1);
+        IS(axle_log_feed_in(&log, bytes + at, n - at, 1, 0, &taken, &blocks).number == AXLE_DONE);
+        IS(same_log(log, answer.log) && taken == parts[i] && blocks == 1);
+        at += taken;
+        if (at == n)
+            break;
+        between = log;
+        IS(broke(axle_log_feed_in(&log, bytes + at, n - at, 0, 0, &taken, &blocks), AXLE_LENGTH, 0) && taken == 0 && blocks == 0);
+        IS(broke(axle_log_feed_in(&log, bytes + at, n - at - 1, 1, 0, &taken, NULL), AXLE_LENGTH, 0) && taken == 0);
+        IS(broke(axle_log_feed_in(&log, bytes, n, 1, 0, NULL, &blocks), AXLE_LENGTH, 0) && blocks == 0);
+        IS(axle_log_accept_in(&log, type_0, sizeof type_0, 0).number == AXLE_OUT_OF_TURN);
+        IS(axle_log_accept_in(&log, bytes, n, 0).number == AXLE_OUT_OF_TURN);
+        IS(broke(axle_log_accept_in(&log, type_0, 3, 0), AXLE_MALFORMED, 3));
+        IS(axle_log_finish_in(&log, secret, sizeof secret, finished, sizeof finished).number == AXLE_OUT_OF_TURN);
+        IS(axle_log_expected_finished(log, secret, sizeof secret).refusal.number == AXLE_OUT_OF_TURN);
+        IS(axle_log_session_hash(log).refusal.number == AXLE_OUT_OF_TURN);
+        IS(axle_complete(&connection, log, decision).number == AXLE_OUT_OF_TURN);
+        IS(same_log(log, between));
+    }
+    IS(at == n && same_log(log, axle_log_accept(axle_log_fresh(), bytes, n, 0).log));
+    IS(axle_log_feed_in(&log, type_0, sizeof type_0, 1, 0, &taken, &blocks).number == AXLE_DONE && taken == 4 && blocks == 0);
+    IS(same_log(log, axle_log_accept(axle_log_fresh(), bytes, n, 0).log));
+}
+
 static void wiping(void)
 {
     uint8_t some[9];
@@ -520,6 +572,7 @@ int main(void)
     table_in_place();
     given_up();
     log_in_place();
+    fed_in_place();
     wiping();
     printf("%d cases, %d wrong, version %s\n", cases, wrong, AXLE_GATEWAY_VERSION);
     return wrong != 0;

@@ -33,6 +33,7 @@ MESSAGES = {
     "axle_decide_server": 0,
     "axle_decide_client": 0,
     "axle_log_accept": 0,
+    "axle_log_feed": 0,
     "axle_log_finish": 1,
 }
 # what a writer takes, and the reader of what it wrote
@@ -92,8 +93,8 @@ def some_number(r, kind):
 
 def drawn(r, name):
     """Arguments that go together: for a writer the fields of a hello, one of them spoilt at times; for a decision the hello and the
-    session that it names, at times of another suite; for a Finished the value that the log expects, or nearly so. None is left to
-    chance, and so is what is not there."""
+    session that it names, at times of another suite; for a Finished the value that the log expects, or nearly so; for a later part as
+    many bytes as are left, or nearly so. None is left to chance, and so is what is not there."""
     suite = r.choice((0x002F, 0x002F, 0x2F00))
     if name == "axle_decide_server" and r.random() < 0.3:
         named, axle, ems = r.randbytes(r.randrange(1, 33)), r.randrange(1, 7), r.randrange(2)
@@ -106,6 +107,10 @@ def drawn(r, name):
         log, secret = values.some(r, face.Log), r.randbytes(48)
         value = bytes(face.log_expected_finished(log, secret).value)
         return [log, secret, hellos.message(20, r.choice((value, value[1:] + value[:1])))]
+    if name == "axle_log_feed" and r.random() < 0.5:
+        log = values.some(r, face.Log)
+        log.left = r.randrange(1, r.choice((200, LONGEST)))
+        return [log, r.randbytes(log.left + r.choice((0, 0, 0, -1, 1))), r.choice((1, 2, 256, 257))]
     if name not in WRITERS or r.random() < 0.2:
         return []
     given = [bytes(face.numbers(value)) if isinstance(value, tuple) else value for value in hellos.some_fields(r, WRITERS[name][0])]
@@ -177,6 +182,8 @@ def soak(seconds, seed, calls=float("inf")):
             assert page.around_untouched(), name
             if not written or refused:
                 assert page.now() == data, name
+        if name == "axle_log_feed":  # the rest, and how many blocks it may work
+            assert answer.taken <= len(lent[0][2]) and answer.blocks <= (0 if refused else passed[3]), name
         if name in WRITERS and not refused:
             message = page.now()[: answer.length]
             assert WRITERS[name][1](message).refusal.number == 0 and page.now()[answer.length :] == data[answer.length :], name

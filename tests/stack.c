@@ -345,6 +345,47 @@ static void decisions(void)
     }
 }
 
+static void completed(AxleLog log, uint8_t resumes)
+{
+    AxleConnection connection = axle_connection_fresh();
+    for (int bits = 0; bits < 4; bits++) {
+        AxleDecision decision = {.refusal = axle_refusal(bits & 1 ? 6 : 0), .resumes = bits & 2 ? resumes : !resumes};
+        TRY(axle_complete, &connection, log, decision);
+    }
+}
+
+/* The kinds of parts that were fed: first and not last, between two others, last and not first, both; the last of a
+ * ClientKeyExchange, which makes the session hash. */
+static size_t firsts, middles, lasts, wholes, exchanges;
+
+/* A message by parts, the first two by this allowance and the others by the most, and every other call between them. */
+static void fed(AxleLog log, const uint8_t *rest, size_t length, size_t allowance)
+{
+    static const size_t wrong[] = {0, AXLE_ALLOWANCE_MOST + 1, (size_t)-1};
+    uint8_t type = rest[0];
+    for (size_t part = 0; part == 0 || length > 0; part++) {
+        size_t allowed = part < 2 ? allowance : AXLE_ALLOWANCE_MOST;
+        TRY(axle_log_feed, log, rest, length, allowed, part == 0);
+        AxleFed answer = axle_log_feed(log, rest, length, allowed, part == 0);
+        if (answer.refusal.number != AXLE_DONE)
+            return;
+        TRY(axle_log_feed, log, rest, length - 1, allowed, 0);
+        for (size_t i = 0; i < sizeof wrong / sizeof *wrong; i++)
+            TRY(axle_log_feed, log, rest, length, wrong[i], 0);
+        log = answer.log, rest += answer.taken, length -= answer.taken;
+        *(length > 0 ? part == 0 ? &firsts : &middles : part == 0 ? &wholes : &lasts) += 1;
+        exchanges += length == 0 && part > 0 && type == 16;
+        if (length == 0)
+            return;
+        TRY(axle_log_session_hash, log);
+        TRY(axle_log_expected_finished, log, bytes, 48);
+        TRY(axle_log_accept, log, rest, length, 0);
+        TRY(axle_log_accept, log, (const uint8_t[4]){0}, 4, 0);
+        TRY(axle_log_finish, log, bytes, 48, (const uint8_t[16]){FINISHED, 0, 0, 12}, 16);
+        completed(log, 0);
+    }
+}
+
 /* Every call on a log, with every type of message, short, long and malformed. */
 static void asked(AxleLog log)
 {
@@ -364,18 +405,12 @@ static void asked(AxleLog log)
             TRY(axle_log_accept, log, read, n - 1, 0);
             TRY(axle_log_finish, log, bytes, 48, read, n);
             TRY(axle_log_finish, log, bytes, 47, read, n);
+            fed(log, read, n, 1);
+            fed(log, read, n, AXLE_ALLOWANCE_MOST);
         }
     TRY(axle_log_accept, log, read, sizeof read, 0);
+    TRY(axle_log_feed, log, read, sizeof read, 1, 0);
     TRY(axle_log_finish, log, bytes, 48, read, sizeof read);
-}
-
-static void completed(AxleLog log, uint8_t resumes)
-{
-    AxleConnection connection = axle_connection_fresh();
-    for (int bits = 0; bits < 4; bits++) {
-        AxleDecision decision = {.refusal = axle_refusal(bits & 1 ? 6 : 0), .resumes = bits & 2 ? resumes : !resumes};
-        TRY(axle_complete, &connection, log, decision);
-    }
 }
 
 /* A handshake of these types, message by message, the bodies of that length. */
@@ -408,6 +443,7 @@ static void logs(void)
         handshake(full, sizeof full, lengths[i], 0);
         handshake(resumed, sizeof resumed, lengths[i], 1);
     }
+    must(firsts && middles && lasts && wholes && exchanges, "a part of each kind");
 }
 
 int main(void)

@@ -7,6 +7,7 @@ import random
 import re
 
 from oracle import numbers, secrets
+from oracle.log import LETTER
 from oracle.log import Log as Oracle
 from tests import face, hellos, values
 from tests.handshakes import full_and_resumed
@@ -21,10 +22,19 @@ FULL = ["", "a", "ab", "abc", "abc?k", "abc?k?r", "abc?k?d", "abc?k?rd", "abc?k?
 RESUMED = ["ab", "abS", "abSC"]
 
 
-def place(oracle):
-    first, ways = (len(FULL), RESUMED) if oracle.resumed else (0, FULL)
-    (found,) = (n for n, way in enumerate(ways, first) if re.fullmatch(way, oracle.word))
+def place(word, resumed):
+    first, ways = (len(FULL), RESUMED) if resumed else (0, FULL)
+    (found,) = (n for n, way in enumerate(ways, first) if re.fullmatch(way, word))
     return found
+
+
+def between(oracle):
+    """What is taken of a message between its parts, its type, the place that it leads to, and how many bytes are left."""
+    if not oracle.begun:
+        return b"", 0, 0, 0
+    got, whole, told = oracle.begun
+    kind = got[0]
+    return got, kind, place(oracle.word + LETTER[kind], told if kind == 2 else oracle.resumed), whole - len(got)
 
 
 class Pair:
@@ -46,9 +56,12 @@ class Pair:
     def _stands(self):
         """The log is the second program's in every field."""
         log, o = self.log, self.oracle
+        got, *kept = between(o)
+        hashed = o.hashed + got
         digest = bytes(face.hash_digest(log.hash).bytes)
-        assert (log.hash.length, digest) == (len(o.hashed), hashlib.sha256(o.hashed).digest()), o.word
-        assert (log.place, bytes(log.session)) == (place(o), o.session or bytes(32)), o.word
+        assert (log.hash.length, digest) == (len(hashed), hashlib.sha256(hashed).digest()), o.word
+        assert (log.place, bytes(log.session)) == (place(o.word, o.resumed), o.session or bytes(32)), o.word
+        assert [log.kind, log.next, log.left] == kept, o.word
         assert (bytes(log.client), bytes(log.server)) == tuple(o.values.get(side, bytes(12)) for side in "CS"), o.word
 
     def accept(self, message, resumes=False):
@@ -84,7 +97,7 @@ class Pair:
     def state(self):
         """What decides all later answers, for telling situations apart."""
         o = self.oracle
-        return o.word, o.resumed, o.hashed, o.session
+        return o.word, o.resumed, o.hashed, o.session, o.begun
 
 
 def body(kind):

@@ -11,6 +11,7 @@ SEEN = {
     "axle_hash_absorb": {0, 10},
     "axle_log_accept": {0, 1, 7, 10},
     "axle_log_expected_finished": {0, 7},
+    "axle_log_feed": {0, 1, 7, 10},
     "axle_log_finish": {0, 1, 7, 8, 10},
     "axle_log_session_hash": {0, 7},
     "axle_master_secret": {0, 10},

@@ -6,7 +6,7 @@
 use axle_gateway::{
     decide_client, decide_server, extended_master_secret, extensions_at, write_client_hello, write_server_hello,
     ClientHelloFields, Connection, Decision, ExtensionList, Log, Offer, Result, Secret, ServerHelloFields, Switches,
-    Table, REPLY_MAX,
+    Table, MESSAGE_MAX, REPLY_MAX,
 };
 
 const AXLE: u8 = 3;
@@ -76,6 +76,14 @@ fn hellos(log: &mut Log, table: &Table, offer: Option<Offer<'_>>) -> Result<Deci
     Ok(server)
 }
 
+/// A long message by parts, of 16 hash blocks at most: what else waits has its turn between them.
+fn feed(log: &mut Log, mut rest: &[u8]) -> Result<()> {
+    while !rest.is_empty() {
+        rest = &rest[log.feed(rest, 16, false)?.taken..];
+    }
+    Ok(())
+}
+
 /// The Finished that is due, twice: its value is asked for, and the message is checked and taken as by the peer.
 fn finish(log: &mut Log, secret: &Secret) -> Result<()> {
     for _ in 0..2 {
@@ -91,7 +99,8 @@ pub fn main() -> Result<()> {
 
     let mut log = Log::new();
     let decision = hellos(&mut log, &table, None)?;
-    for kind in [CERTIFICATE, HELLO_DONE, KEY_EXCHANGE] {
+    feed(&mut log, &message(CERTIFICATE, &[0; MESSAGE_MAX - 4]))?;
+    for kind in [HELLO_DONE, KEY_EXCHANGE] {
         log.accept(&message(kind, b""), false)?;
     }
     let secret = extended_master_secret(&PRE_MASTER, &log.session_hash()?)?;

@@ -186,6 +186,9 @@ pub struct Log {
     pub session: [u8; 32],
     pub client: [u8; 12],
     pub server: [u8; 12],
+    pub kind: u8,
+    pub next: u8,
+    pub left: u16,
 }
 
 #[repr(C)]
@@ -193,6 +196,15 @@ pub struct Log {
 pub struct Accepted {
     pub refusal: Refusal,
     pub log: Log,
+}
+
+#[repr(C)]
+#[derive(Clone, Copy)]
+pub struct Fed {
+    pub refusal: Refusal,
+    pub log: Log,
+    pub taken: usize,
+    pub blocks: usize,
 }
 
 #[repr(C)]
@@ -247,7 +259,7 @@ macro_rules! plain {
     };
 }
 
-plain!(Hash, Absorbed, Table, Stored, Withdrawn, Log, Accepted, Connection);
+plain!(Hash, Absorbed, Table, Stored, Withdrawn, Log, Accepted, Fed, Connection);
 
 extern "C" {
     pub fn axle_refusal(number: u8) -> Refusal;
@@ -368,6 +380,7 @@ extern "C" {
 
     pub fn axle_log_fresh() -> Log;
     pub fn axle_log_accept(log: Log, message: *const u8, length: usize, resumes: u8) -> Accepted;
+    pub fn axle_log_feed(log: Log, rest: *const u8, length: usize, allowance: usize, resumes: u8) -> Fed;
     pub fn axle_log_session_hash(log: Log) -> SessionHash;
     pub fn axle_log_finish(
         log: Log,

@@ -42,7 +42,7 @@ pub use hash::{sha256, Hash};
 pub use hello::{
     extensions_at, read_client_hello, read_server_hello, ClientHello, Extension, ExtensionIter, Extensions, ServerHello,
 };
-pub use log::Log;
+pub use log::{Fed, Log};
 pub use refusal::{Alert, Level, Refusal, Result};
 pub use secrets::{extended_master_secret, hmac, master_secret, Secret};
 pub use sizes::*;

@@ -26,3 +26,5 @@ pub const AXLES: usize = 6;
 pub const SESSIONS_MAX: usize = 32;
 /// The most sessions of one axle.
 pub const SESSIONS_AN_AXLE: usize = 8;
+/// The most hash blocks that a call of [`Log::feed`](crate::Log::feed) may be allowed.
+pub const ALLOWANCE_MOST: usize = 256;

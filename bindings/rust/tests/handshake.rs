@@ -108,6 +108,65 @@ fn the_log_takes_a_finished_that_is_equal() {
     assert_eq!(log.finish(&secret, &finished), Err(Refusal::OutOfTurn));
 }
 
+/// A long Certificate by every allowance, beside the single call; between its parts all other calls are refused.
+#[test]
+fn a_message_by_parts() {
+    let secret = Secret::from([5; 48]);
+    let message = |kind, body: &[u8]| [&[kind, 0], &(body.len() as u16).to_be_bytes()[..], body].concat();
+    let certificate = message(11, &[9; MESSAGE_MAX - 4]);
+    let mut before = Log::new();
+    before.accept(&message(1, &[1; 70]), false).unwrap();
+    before.accept(&message(2, &[2; 81]), false).unwrap();
+    let hashed = 4 + 70 + 4 + 81;
+    let session_hash = |mut log: Log| {
+        log.accept(&message(14, b""), false).unwrap();
+        log.accept(&message(16, b"key"), false).unwrap();
+        log.session_hash().unwrap()
+    };
+    let mut single = before.clone();
+    single.accept(&certificate, false).unwrap();
+    let whole = session_hash(single);
+    for allowance in (1..=ALLOWANCE_MOST).step_by(5) {
+        let (mut log, mut rest, mut blocks, mut calls) = (before.clone(), &certificate[..], 0, 0);
+        while !rest.is_empty() {
+            let fed = log.feed(rest, allowance, true).unwrap();
+            assert!(fed.taken >= rest.len().min(64) && fed.blocks <= allowance);
+            (rest, blocks, calls) = (&rest[fed.taken..], blocks + fed.blocks, calls + 1);
+            if rest.is_empty() {
+                break;
+            }
+            assert_eq!(log.feed(rest, 0, false), Err(Refusal::Length));
+            assert_eq!(log.feed(rest, ALLOWANCE_MOST + 1, false), Err(Refusal::Length));
+            assert_eq!(log.feed(&rest[1..], allowance, false), Err(Refusal::Length));
+            assert_eq!(log.accept(&message(0, b""), false), Err(Refusal::OutOfTurn));
+            assert_eq!(log.accept(b"\0\0", false), Err(Refusal::Malformed { place: Some(2) }));
+            assert_eq!(log.finish(&secret, &message(20, &[0; 12])), Err(Refusal::OutOfTurn));
+            assert_eq!(log.expected_finished(&secret), Err(Refusal::OutOfTurn));
+            assert_eq!(log.session_hash(), Err(Refusal::OutOfTurn));
+        }
+        assert_eq!(blocks, (hashed + MESSAGE_MAX) / 64 - hashed / 64);
+        assert_eq!((calls == 1, session_hash(log)), (allowance > 255, whole), "allowance {allowance}");
+    }
+    assert_eq!(before.feed(&message(0, b""), 1, false), Ok(Fed { taken: 4, blocks: 0 }));
+    assert_eq!(before.feed(&message(20, &[0; 12]), 1, false), Err(Refusal::OutOfTurn));
+    assert_eq!(before.feed(&[11, 0, 0, 1], 1, false), Err(Refusal::Malformed { place: Some(1) }));
+    assert_eq!(before.feed(&message(11, &[0; MESSAGE_MAX]), 1, false), Err(Refusal::Length));
+}
+
+/// What is told counts with the first part of a ServerHello alone.
+#[test]
+fn told_with_the_first_part() {
+    for resumes in [false, true] {
+        let mut log = Log::new();
+        log.accept(&client_hello(b""), !resumes).unwrap();
+        let answer = [&[2, 0, 0, 200][..], &[3; 200]].concat();
+        let fed = log.feed(&answer, 1, resumes).unwrap();
+        assert!(fed.taken < answer.len());
+        log.feed(&answer[fed.taken..], 256, !resumes).unwrap();
+        assert_eq!(log.expected_finished(&Secret::from([5; 48])).is_ok(), resumes);
+    }
+}
+
 #[test]
 fn completion_only_at_the_end() {
     let mut room = [0; REPLY_MAX];

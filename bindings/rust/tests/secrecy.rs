@@ -54,6 +54,9 @@ fn dropped_values_are_zeros() {
     assert!(zeros(left_by(marked_table().clone())));
     assert!(zeros(left_by(marked_hash())));
     assert!(zeros(left_by(marked_log())));
+    let mut between_parts = Log::new();
+    between_parts.feed(&[&[1, 0, 0, 200][..], &[MARK; 200]].concat(), 1, false).unwrap();
+    assert!(zeros(left_by(between_parts)));
     assert!(zeros(left_by(Connection::new())));
     let session = marked_table().look_up(1, &[MARK; 32]).unwrap().unwrap();
     assert!(session.secret.as_bytes() == &SECRET && session.suite == MARKS);

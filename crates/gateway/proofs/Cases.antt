@@ -20,6 +20,7 @@ use Rattle.decision.specs.Reply.{replyList, replyOf}
 use Rattle.decision.specs.Server.{onOffer, sessionIn, serverWrong, serverFlag, resumable, serverOutcome, serverReply, serverNumber, serverDecision}
 use Rattle.log.specs.Order.{turns, isDue, look, finishedDue}
 use Rattle.log.specs.History.{tells, placeOf, hashed}
+use Rattle.log.specs.Standing.{historyOf}
 use Rattle.log.specs.Calls.{wrongBody, misshapen, outOfTurn, isFinished, acceptNumber, afterAccept}
 use Rattle.log.specs.Finish.{expectedValue, expectedNumber, finishNumber}
 use Rattle.sessions.specs.Book as book
@@ -55,7 +56,7 @@ cases =
       early-finished = λ secret value e f. rw (e, f);
       early-expected = λ secret e. rw e;
       told-expected = λ secret e. rw e;
-      told-finished = λ secret value e f. rw (e, f) (by-value (same value (expectedValue (greeted true) secret)));
+      told-finished = λ secret value e f. rw (e, f) (by-value (same value (expectedValue (historyOf (greeted true)) secret)));
       fed-finished = fed-finished;
       type-0-first = refl;
       type-0-hashed = refl;

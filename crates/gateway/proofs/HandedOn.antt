@@ -22,7 +22,7 @@ use Rattle.decision.proofs.Judging.{decision-refused}
 use Rattle.decision.proofs.Serving.{decision-number}
 use Rattle.log.specs.Calls.{brokenAt}
 use Rattle.gateway.specs.Hellos.{clientReading, serverReading}
-use Rattle.gateway.specs.HandedOn.{ServerHandsOn, ClientHandsOn, LogHandsOn}
+use Rattle.gateway.specs.HandedOn.{ServerHandsOn, ClientHandsOn, LogHandsOn, PartHandsOn}
 use Rattle.gateway.specs.declared.hellos.ClientReading.{ClientReading}
 use Rattle.gateway.specs.declared.hellos.ServerReading.{ServerReading}
 
@@ -73,3 +73,6 @@ client-hands-on m i l c s d r w e y =
 
 pub log-hands-on : LogHandsOn
 log-hands-on log log′ secret m resumes r r′ a f y y′ = a .placed ∙ ap (λ (n : ℕ). refusalAt n (brokenAt m)) (y ∙ sym y′) ∙ sym (f .placed)
+
+pub part-hands-on : PartHandsOn
+part-hands-on log log′ m k resumes r r′ a f y y′ = a .placed ∙ ap (λ (n : ℕ). refusalAt n (brokenAt m)) (y ∙ sym y′) ∙ sym (f .placed)

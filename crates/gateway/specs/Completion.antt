@@ -10,12 +10,13 @@ use Rattle.seqs.specs.Flag.{yes, bit}
 use Rattle.refusal.specs.First.{firstOf}
 use Rattle.refusal.specs.Table.{refusalOf}
 use Rattle.refusal.specs.declared.Refusal.{Refusal}
-use Rattle.log.specs.History.{History}
 use Rattle.log.specs.History.History.{fresh}
 use Rattle.log.specs.History.Side.{client, server}
+use Rattle.log.specs.Standing.{Standing, historyOf}
+use Rattle.log.specs.Standing.Standing.{whole}
 use Rattle.log.specs.Calls.{finishedOf}
 use Rattle.log.specs.Stands.{Stands}
-use Rattle.log.specs.Runs.{Call, historyFrom, Run, Came}
+use Rattle.log.specs.Runs.{Call, standingFrom, Run, Came}
 use Rattle.log.specs.declared.state.Log.{Log}
 use Rattle.log.specs.declared.answers.Finished.{Finished}
 use Rattle.decision.specs.declared.connection.Connection.{Connection}
@@ -50,19 +51,19 @@ completedOf c f d =
       connection = pick (eqb (completeNumber f d) 0) (completedRecord f d) c;
     }
 
--- what completion promises: number and record are the definition's for what the log says of its Finished. Of a log that stands for a
--- history that is `finishedOf`; of any other struct value it is something, so that the number is 0 or 7 and 7 leaves the record.
+-- what completion promises: number and record are the definition's for what the log says of its Finished. Of a log that stands for
+-- something that is `finishedOf`; of any other struct value it is something, so that the number is 0 or 7 and 7 leaves the record.
 pub record Completes (was : Connection) (log : Log) (d : Decision) (r : Refusal) (after : Connection) : Type 0 where
   pub finished : Finished
   pub refusal : r ≡ completedOf was finished d .refusal
   pub connection : after ≡ completedOf was finished d .connection
   pub kept : (r .number ≡ 0 → ⊥) → after ≡ was
-  pub stands : (h : History) → Stands log h → finished ≡ finishedOf h
+  pub stands : (s : Standing) → Stands log s → finished ≡ finishedOf s
 
 -- Order 6: of a log that calls made from a fresh one, completion writes only values that were checked. The proof is
 -- proofs/Completing.antt; that there are such logs, complete ones too, is `Total` and `EveryOrder` of the crate `log`.
 abbrev pub WritesChecked : Type 0
 WritesChecked =
-    (begun log : Log) (cs : List Call) → Stands begun fresh → Run begun cs log
+    (begun log : Log) (cs : List Call) → Stands begun (whole fresh) → Run begun cs log
     → (was after : Connection) (d : Decision) (r : Refusal) → Completes was log d r after → r .number ≡ 0
-    → Came client (historyFrom fresh cs) (after .client) × Came server (historyFrom fresh cs) (after .server)
+    → Came client (historyOf (standingFrom (whole fresh) cs)) (after .client) × Came server (historyOf (standingFrom (whole fresh) cs)) (after .server)

@@ -15,9 +15,10 @@ use Rattle.decision.specs.Client.{Lent, clientDecision}
 use Rattle.decision.specs.declared.connection.Connection.{Connection}
 use Rattle.decision.specs.declared.connection.Switches.{Switches}
 use Rattle.decision.specs.declared.connection.Decision.{Decision}
-use Rattle.log.specs.Promise.{Accepts, Finishes}
+use Rattle.log.specs.Promise.{Accepts, Finishes, Feeds}
 use Rattle.log.specs.declared.state.Log.{Log}
 use Rattle.log.specs.declared.answers.Accepted.{Accepted}
+use Rattle.log.specs.declared.answers.Fed.{Fed}
 use Rattle.gateway.specs.Hellos.{clientReading, serverReading}
 use Rattle.gateway.specs.declared.hellos.ClientReading.{ClientReading}
 use Rattle.gateway.specs.declared.hellos.ServerReading.{ServerReading}
@@ -37,8 +38,13 @@ ClientHandsOn =
     → d ≡ clientDecision (readServer m) i l c s → r ≡ serverReading (serverAnswer (readServer m))
     → placed (d .refusal .number) ≡ true → d .refusal ≡ r .refusal
 
--- Both calls of the log answer a malformed message alike, whatever logs they are passed.
+-- The calls of the log answer a malformed message alike, whatever logs they are passed; that by allowance where it lends a first part.
 abbrev pub LogHandsOn : Type 0
 LogHandsOn =
     (log log′ : Log) (secret m : List ℕ) (resumes : Bool) (r r′ : Accepted) → Accepts log m resumes r → Finishes log′ secret m r′
+    → r .refusal .number ≡ 1 → r′ .refusal .number ≡ 1 → r .refusal ≡ r′ .refusal
+
+abbrev pub PartHandsOn : Type 0
+PartHandsOn =
+    (log log′ : Log) (m : List ℕ) (k : ℕ) (resumes : Bool) (r : Accepted) (r′ : Fed) → Accepts log m resumes r → Feeds log′ m k resumes r′
     → r .refusal .number ≡ 1 → r′ .refusal .number ≡ 1 → r .refusal ≡ r′ .refusal

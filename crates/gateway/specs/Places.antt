@@ -13,6 +13,7 @@ use Rattle.hello.specs.Fields.{fault, readClient, readServer}
 use Rattle.decision.specs.Server.{serverDecision}
 use Rattle.decision.specs.Client.{clientDecision}
 use Rattle.log.specs.History.History.{fresh}
+use Rattle.log.specs.Standing.Standing.{whole}
 use Rattle.log.specs.Calls.{acceptNumber, brokenAt}
 use Rattle.log.specs.Finish.{finishNumber}
 use Rattle.gateway.specs.Cases.{message, connection, legacy, room}
@@ -28,8 +29,8 @@ ServerRow m n p = (readServer m ≡ fault n p) × (clientDecision (readServer m)
 
 abbrev pub LogRow : List ℕ → ℕ → ℕ → Type 0
 LogRow m n p =
-    (refusalAt (acceptNumber fresh m false) (brokenAt m) ≡ refusalAt n p)
-    × (refusalAt (finishNumber fresh (replicate 48 0) m) (brokenAt m) ≡ refusalAt n p)
+    (refusalAt (acceptNumber (whole fresh) m false) (brokenAt m) ≡ refusalAt n p)
+    × (refusalAt (finishNumber (whole fresh) (replicate 48 0) m) (brokenAt m) ≡ refusalAt n p)
 
 -- ---- the messages
 

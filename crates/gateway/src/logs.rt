@@ -2,16 +2,18 @@
 ghost use mathlib.Core.Path.{_≡_};
 ghost use Rattle.seqs.specs.Flag.{yes};
 ghost use Rattle.log.specs.History.History.{fresh};
+ghost use Rattle.log.specs.Standing.Standing.{whole};
 ghost use Rattle.log.specs.Stands.{Stands};
-ghost use Rattle.log.specs.Promise.{Accepts, Finishes, Hashes, Expects};
+ghost use Rattle.log.specs.Promise.{Accepts, Feeds, Finishes, Hashes, Expects};
 use log::Accepted;
 use log::Expected;
+use log::Fed;
 use log::Log;
 use log::SessionHash;
 
 #[no_mangle]
 pub extern "C" fn axle_log_fresh() -> Log
-    ensures { λ r. ⌜ Stands r fresh ⌝ }
+    ensures { λ r. ⌜ Stands r (whole fresh) ⌝ }
 {
     Log::fresh()
 }
@@ -21,6 +23,13 @@ pub extern "C" fn axle_log_accept(log: Log, message: &[u8], resumes: u8) -> Acce
     ensures { λ r. ⌜ Accepts log (now (message .entry)) (yes resumes) r ⌝ }
 {
     log.accept(message, resumes != 0)
+}
+
+#[no_mangle]
+pub extern "C" fn axle_log_feed(log: Log, rest: &[u8], allowance: usize, resumes: u8) -> Fed
+    ensures { λ r. ⌜ Feeds log (now (rest .entry)) allowance (yes resumes) r ⌝ }
+{
+    log.feed(rest, allowance, resumes != 0)
 }
 
 #[no_mangle]

@@ -12,7 +12,7 @@ use Rattle.refusal.specs.Listed.{numbered-at}
 use Rattle.refusal.specs.declared.Refusal.{Refusal}
 use Rattle.message.specs.Numbers.{byteAt}
 use Rattle.message.specs.Frame.{kindOf}
-use Rattle.log.specs.History.{History}
+use Rattle.log.specs.Standing.{Standing}
 use Rattle.log.specs.Calls.{brokenAt}
 use Rattle.listing.specs.Digits.{ascii}
 use Rattle.listing.specs.Texts.{columnOf, printed}
@@ -94,7 +94,7 @@ module _ (n p : ℕ) (m : List ℕ) (kind log hello : Column) (e : kind ≡ kind
       log-long z = accepted-long log p (f ∙ ap (λ (x : ℕ). Answer x p) z)
 
 -- the line by the log's answer
-pub line-by : (i : ℕ) (h : History) (m : List ℕ) (r : Refusal) → r ≡ logRefusal h m → printed i (kindColumn m) (answerOf r) (helloColumn (r .number) m) ≡ lineFor i h m
+pub line-by : (i : ℕ) (h : Standing) (m : List ℕ) (r : Refusal) → r ≡ logRefusal h m → printed i (kindColumn m) (answerOf r) (helloColumn (r .number) m) ≡ lineFor i h m
 unfolding lineFor logRefusal
 line-by i h m r e =
     ap₂ (λ (a : Refusal) (n : ℕ). printed i (kindColumn m) (answerOf a) (helloColumn n m)) e (numbered-at (logNumber h m) (brokenAt m) r e)

@@ -9,8 +9,9 @@ use Rattle.seqs.specs.Pick.{pick}
 use Rattle.refusal.specs.Table.{refusalAt}
 use Rattle.refusal.specs.declared.Refusal.{Refusal}
 use Rattle.message.specs.Frame.{kindOf}
-use Rattle.log.specs.History.{History}
 use Rattle.log.specs.History.History.{fresh}
+use Rattle.log.specs.Standing.{Standing}
+use Rattle.log.specs.Standing.Standing.{whole}
 use Rattle.log.specs.Calls.{isFinished, brokenAt, acceptNumber, afterAccept}
 use Rattle.log.specs.Finish.{finishNumber, afterFinish}
 use Rattle.hello.specs.Fields.{readClient}
@@ -55,26 +56,26 @@ zeroSecret = replicate 48 0
 
 -- 'It feeds a fresh log never told of resuming', a Finished by the joined call and every other message by the accepting one: the log's
 -- number for a message
-unfoldable pub logNumber : History → List ℕ → ℕ
-logNumber h m = pick (isFinished m) (finishNumber h zeroSecret m) (acceptNumber h m false)
+unfoldable pub logNumber : Standing → List ℕ → ℕ
+logNumber s m = pick (isFinished m) (finishNumber s zeroSecret m) (acceptNumber s m false)
 
 -- and its answer: the place is that where the message broke
-unfoldable pub logRefusal : History → List ℕ → Refusal
-logRefusal h m = refusalAt (logNumber h m) (brokenAt m)
+unfoldable pub logRefusal : Standing → List ℕ → Refusal
+logRefusal s m = refusalAt (logNumber s m) (brokenAt m)
 
 -- 'A refused message is passed over and the next one fed.'
-unfoldable pub logAfter : History → List ℕ → History
-logAfter h m = pick (isFinished m) (afterFinish h zeroSecret m) (afterAccept h m false)
+unfoldable pub logAfter : Standing → List ℕ → Standing
+logAfter s m = pick (isFinished m) (afterFinish s zeroSecret m) (afterAccept s m false)
 
 -- the line of message i
-unfoldable pub lineFor : ℕ → History → List ℕ → List ℕ
-lineFor i h m = printed i (kindColumn m) (answerOf (logRefusal h m)) (helloColumn (logNumber h m) m)
+unfoldable pub lineFor : ℕ → Standing → List ℕ → List ℕ
+lineFor i s m = printed i (kindColumn m) (answerOf (logRefusal s m)) (helloColumn (logNumber s m) m)
 
 -- the lines of the messages from number i on
-unfoldable pub lines : ℕ → History → List (List ℕ) → List ℕ
-lines i h [] = []
-lines i h (m ∷ ms) = lineFor i h m ++ lines (i + 1) (logAfter h m) ms
+unfoldable pub lines : ℕ → Standing → List (List ℕ) → List ℕ
+lines i s [] = []
+lines i s (m ∷ ms) = lineFor i s m ++ lines (i + 1) (logAfter s m) ms
 
 -- 'Bad contents print the header, then `contents refused`.'
 unfoldable pub listing : List ℕ → List ℕ
-listing case = header ++ pick (goodCase case) (lines 1 fresh (bodiesOf case)) refused
+listing case = header ++ pick (goodCase case) (lines 1 (whole fresh) (bodiesOf case)) refused

@@ -10,6 +10,7 @@ ghost use mathlib.Core.Bool.{true};
 ghost use mathlib.Core.List.{_++_};
 ghost use Prim.Native.Nat.{_≤_};
 ghost use Rattle.log.specs.History.History.{fresh};
+ghost use Rattle.log.specs.Standing.Standing.{whole};
 ghost use Rattle.listing.specs.Contents.{goodCase, bodiesOf};
 ghost use Rattle.listing.specs.Texts.{header, textOf};
 ghost use Rattle.listing.specs.Listing.{lines, listing};
@@ -33,7 +34,7 @@ fn headed() -> Text
 // The messages are fed one after the other to one log, which a refused one leaves as it was.
 fn lines(case: &[u8]) -> Text
     requires { ⌜ goodCase (now case) ≡ true ⌝ }
-    ensures { λ r. ⌜ (r ≡ textOf (header ++ lines 1 fresh (bodiesOf (now (case .entry))))) × (r .length ≤ 4103) ⌝ }
+    ensures { λ r. ⌜ (r ≡ textOf (header ++ lines 1 (whole fresh) (bodiesOf (now (case .entry))))) × (r .length ≤ 4103) ⌝ }
 {
     let count = byte(case, 0);
     let mut text = headed();

@@ -1,59 +1,105 @@
 -- What is asked of a log without altering it: the session hash, and what completion needs.
 -- Assumes nothing.
-use mathlib.Core.Path.{_≡_, refl}
-use mathlib.Core.Bool.{Bool, true, false, _||_}
+use mathlib.Core.Path.{_≡_, refl, sym, _∙_}
+use mathlib.Core.Bool.{Bool, true, false, not, _&&_, _||_}
+use mathlib.Core.Logic.{_⊎_, inl, inr}
+use mathlib.Core.List.{List, _++_}
+use Prim.Native.Nat.{ℕ}
 use native.Mathlib.Omega.{arith}
 use lib.Dec.{eqb}
-use lib.ListN.{replicate}
+use lib.ListN.{replicate, length-replicate}
 use borrow.Author.Tests.{ne-eqb}
+use Rattle.seqs.specs.Cases.{not-both}
 use Rattle.refusal.specs.First.{firstOf}
 use Rattle.refusal.specs.Table.{refusalOf}
+use Rattle.refusal.specs.Listed.{listed, numbered}
 use Rattle.refusal.specs.declared.Refusal.{Refusal}
-use Rattle.log.specs.History.{History, exchanged, resumed, complete}
+use Rattle.message.specs.Frame.{kindOf}
+use Rattle.log.specs.Order.{Place, turns, isDue}
+use Rattle.log.specs.Order.Place.{completeFull, completeResumed}
+use Rattle.log.specs.History.{History, placeOf, exchanged, resumed, complete}
+use Rattle.log.specs.Standing.{Standing, Part, historyOf, between, leftOf}
+use Rattle.log.specs.Standing.Standing.{whole, parted}
 use Rattle.log.specs.Calls.{sessionNumber, sessionHashOf, finishedOf}
-use Rattle.log.specs.Stands.{Stands, Placed}
+use Rattle.log.specs.Stands.{Stands, Placed, number}
 use Rattle.log.specs.Promise.{Hashes}
 use Rattle.log.specs.declared.state.Log.{Log}
+use Rattle.log.specs.declared.answers.SessionHash.{SessionHash}
 use Rattle.log.specs.declared.answers.Finished.{Finished}
-use Rattle.refusal.specs.Listed.{listed, numbered}
-use Rattle.log.proofs.Turns.{resumedAt}
+use Rattle.log.proofs.Turns.{same-place, resumedAt}
 use Rattle.log.proofs.Places.{placed-says, complete-by}
+use Rattle.log.proofs.Standing.{by-whole, by-parted}
+use Rattle.log.proofs.Heads.{kind-front, accepted-due}
 
-module _ (log : Log) (r : Refusal) (b : Bool) (e : (h : History) → Placed (log .place) h → b ≡ exchanged h) where
+-- was a ClientKeyExchange accepted, as the log has it: between parts nothing is told
+abbrev pub Exchanged : Log → Bool → Type 0
+Exchanged log b = (s : Standing) → Stands log s → b ≡ (not (between s) && exchanged (historyOf s))
+
+pub exchanged-between : (log : Log) → (log .left ≡ 0 → ⊥) → Exchanged log (eqb (log .left) 0)
+exchanged-between log e s st = rw (ne-eqb (log .left) 0 e, by-parted log e s st)
+
+pub exchanged-whole : (log : Log) (b : Bool) → log .left ≡ 0 → ((h : History) → Placed (log .place) h → b ≡ exchanged h) → Exchanged log b
+exchanged-whole log b e f =
+    by-whole log e (λ (s : Standing). b ≡ (not (between s) && exchanged (historyOf s))) (λ h st. f h (st .place))
+
+module _ (log : Log) (r : Refusal) (b : Bool) (e : Exchanged log b) where
   pub session-given : r ≡ refusalOf 0 → b ≡ true → Hashes log (record { refusal = r; hash = log .session })
   unfolding sessionHashOf sessionNumber firstOf
-  session-given d f =
-      record {
-        listed = listed 0 r d (omega arith);
-        nothing = λ n. absurd (n (numbered 0 r d));
-        answer = λ h s. rw (← e h (s .place), f, d, s .session);
-      }
+  session-given d f = record { listed = listed 0 r d (omega arith); nothing = λ n. absurd (n (numbered 0 r d)); answer = go }
+    where
+      go : (s : Standing) → Stands log s → _≡_ {A = SessionHash} (record { refusal = r; hash = log .session }) (sessionHashOf s)
+      go (whole h) st = rw (sym (e (whole h) st) ∙ f, d, st .session)
+      go (parted h p) st = not-both f (e (parted h p) st)
 
   pub session-refused : r ≡ refusalOf 7 → b ≡ false → Hashes log (record { refusal = r; hash = replicate 32 0 })
   unfolding sessionHashOf sessionNumber firstOf
-  session-refused d f =
-      record {
-        listed = listed 7 r d (omega arith);
-        nothing = λ n. refl;
-        answer = λ h s. rw (← e h (s .place), f, d);
-      }
+  session-refused d f = record { listed = listed 7 r d (omega arith); nothing = λ n. refl; answer = go }
+    where
+      go : (s : Standing) → Stands log s → _≡_ {A = SessionHash} (record { refusal = r; hash = replicate 32 0 }) (sessionHashOf s)
+      go (whole h) st = rw (sym (e (whole h) st) ∙ f, d)
+      go (parted h p) st = rw d
 
-module _ (log : Log) (h : History) (s : Stands log h) where
-  completes : (eqb (log .place) 13 || eqb (log .place) 16) ≡ complete h
-  completes = complete-by (log .place) h (s .place)
+-- nothing is in turn behind both Finished
+done-due : (p : Place) → (number p ≡ 13) ⊎ (number p ≡ 16) → (resumes : Bool) (kind : ℕ) → isDue kind (turns resumes p) ≡ false
+unfolding number turns isDue
+done-due p (inl e) resumes kind = rw (same-place p completeFull e)
+done-due p (inr e) resumes kind = rw (same-place p completeResumed e)
 
-  resumes : resumed h ≡ resumedAt (log .place)
-  resumes = placed-says (log .place) h (s .place) .resumed
+module _ (log : Log) where
+  -- so a log with both taken is whole
+  done-whole : (log .place ≡ 13) ⊎ (log .place ≡ 16) → (h : History) (p : Part) → Stands log (parted h p) → ⊥
+  done-whole e h p st =
+      let rest : List ℕ = replicate (leftOf p) 0 in
+      let m : List ℕ = p .got ++ rest in
+      let k : kindOf m ≡ kindOf (p .got) = kind-front (p .got) rest (omega (arith, st .part .header)) in
+      let a = st .part .judged rest (length-replicate (leftOf p) 0) in
+      not-both (accepted-due h m (p .resumes) a (λ z. st .part .hashed (sym k ∙ z))) (done-due (placeOf h) (by-sum e) (p .resumes) (kindOf m))
+    where
+      by-sum : (log .place ≡ 13) ⊎ (log .place ≡ 16) → (number (placeOf h) ≡ 13) ⊎ (number (placeOf h) ≡ 16)
+      by-sum (inl x) = inl (sym (st .place .number) ∙ x)
+      by-sum (inr x) = inr (sym (st .place .number) ∙ x)
 
-  pub finished-full : log .place ≡ 13 → _≡_ {A = Finished} (record { complete = 1; resumed = 0; client = log .client; server = log .server }) (finishedOf h)
+  completes : (h : History) → Stands log (whole h) → (eqb (log .place) 13 || eqb (log .place) 16) ≡ complete h
+  completes h s = complete-by (log .place) h (s .place)
+
+  resumes : (h : History) → Stands log (whole h) → resumed h ≡ resumedAt (log .place)
+  resumes h s = placed-says (log .place) h (s .place) .resumed
+
+  pub finished-full : log .place ≡ 13
+      → (s : Standing) → Stands log s → _≡_ {A = Finished} (record { complete = 1; resumed = 0; client = log .client; server = log .server }) (finishedOf s)
   unfolding finishedOf
-  finished-full e = rw (← completes, resumes, e, s .client, s .server)
+  finished-full e (whole h) s = rw (← completes h s, resumes h s, e, s .client, s .server)
+  finished-full e (parted h p) s = absurd (done-whole (inl e) h p s)
 
-  pub finished-resumed : log .place ≡ 16 → _≡_ {A = Finished} (record { complete = 1; resumed = 1; client = log .client; server = log .server }) (finishedOf h)
+  pub finished-resumed : log .place ≡ 16
+      → (s : Standing) → Stands log s → _≡_ {A = Finished} (record { complete = 1; resumed = 1; client = log .client; server = log .server }) (finishedOf s)
   unfolding finishedOf
-  finished-resumed e = rw (← completes, resumes, e, s .client, s .server)
+  finished-resumed e (whole h) s = rw (← completes h s, resumes h s, e, s .client, s .server)
+  finished-resumed e (parted h p) s = absurd (done-whole (inr e) h p s)
 
   pub finished-not : (log .place ≡ 13 → ⊥) → (log .place ≡ 16 → ⊥)
-      → _≡_ {A = Finished} (record { complete = 0; resumed = 0; client = replicate 12 0; server = replicate 12 0 }) (finishedOf h)
+      → (s : Standing) → Stands log s
+      → _≡_ {A = Finished} (record { complete = 0; resumed = 0; client = replicate 12 0; server = replicate 12 0 }) (finishedOf s)
   unfolding finishedOf
-  finished-not e f = rw (← completes, ne-eqb (log .place) 13 e, ne-eqb (log .place) 16 f)
+  finished-not e f (whole h) s = rw (← completes h s, ne-eqb (log .place) 13 e, ne-eqb (log .place) 16 f)
+  finished-not e f (parted h p) s = refl

@@ -23,15 +23,17 @@ use Rattle.log.specs.Order.Place.{beginning}
 use Rattle.log.specs.History.{Beside, History, tells, placeOf, resumed, complete}
 use Rattle.log.specs.History.History.{fresh, accepted}
 use Rattle.log.specs.History.Beside.{told, under}
+use Rattle.log.specs.Standing.Standing.{whole}
 use Rattle.log.specs.Calls.{wrongBody, misshapen, shapeNumber, outOfTurn, inOrder, isFinished, acceptNumber, afterAccept}
 use Rattle.log.specs.Finish.{expectedValue, finishNumber, afterFinish, Checked}
 use Rattle.log.specs.Stands.{number, Placed}
-use Rattle.log.specs.Runs.{Call, numberOf, after, historyFrom}
-use Rattle.log.specs.Runs.Call.{accept, finish}
+use Rattle.log.specs.Runs.{Call, numberOf, after, standingFrom}
+use Rattle.log.specs.Runs.Call.{accept, finish, feed}
 use Rattle.log.specs.Orders.{orders, Begins, walk, walks, typesOf, BothCalls, AllTaken, Under, EveryOrder}
 use Rattle.log.proofs.Turns.{passes, each-place, resumedAt}
 use Rattle.log.proofs.Places.{placed-says, complete-by}
 use Rattle.log.proofs.Messages.{fine}
+use Rattle.log.proofs.Heads.{accepted-is}
 use Rattle.log.proofs.Accepting.{accept-turn, accept-by}
 use Rattle.log.proofs.Finishing.{finish-due}
 use Rattle.log.proofs.Orders.{orderly}
@@ -41,18 +43,18 @@ use Rattle.log.proofs.Histories.{told-by, ordered}
 
 module _ (h : History) (o : inOrder h ≡ true) where
   accepts : (m : List ℕ) (resumes : Bool) → shapeNumber m ≡ 0 → (kindOf m ≡ 20 → ⊥)
-      → Begins (resumed (accepted h m (told resumes))) (typesOf (accepted h m (told resumes))) → acceptNumber h m resumes ≡ 0
+      → Begins (resumed (accepted h m (told resumes))) (typesOf (accepted h m (told resumes))) → acceptNumber (whole h) m resumes ≡ 0
   unfolding inOrder tells isFinished
   accepts m resumes f k b =
       let i : inOrder (accepted h m (told resumes)) ≡ true = ordered (accepted h m (told resumes)) .along b in
-      accept-turn m resumes h (fine m f) false false (ne-eqb (kindOf m) 20 k) (not-true _ (and-left (not (outOfTurn h m resumes)) (inOrder h) i))
+      accept-turn m resumes (fine m f) h false false (ne-eqb (kindOf m) 20 k) (not-true _ (and-left (not (outOfTurn h m resumes)) (inOrder h) i))
 
-  accepts-only : (m : List ℕ) (resumes : Bool) → acceptNumber h m resumes ≡ 0
+  accepts-only : (m : List ℕ) (resumes : Bool) → acceptNumber (whole h) m resumes ≡ 0
       → (kindOf m ≡ 20 → ⊥) × Begins (resumed (accepted h m (told resumes))) (typesOf (accepted h m (told resumes)))
-  unfolding acceptNumber inOrder tells isFinished
+  unfolding inOrder tells
   accepts-only m resumes e =
-      let none = first-zero ((10, overlong m) ∷ (1, misstated m) ∷ (1, misshapen m) ∷ (7, isFinished m) ∷ (7, outOfTurn h m resumes) ∷ []) refl e in
-      (eqb-false (kindOf m) 20 (none .1 .1 .1 .0), ordered (accepted h m (told resumes)) .begins (rw (none .1 .1 .1 .1 .0, o)))
+      let a = accepted-is h m resumes e in
+      (a .other, ordered (accepted h m (told resumes)) .begins (rw (a .turn, o)))
 
   -- type 20 leads on along an order exactly where a Finished is due
   due-along : (secret m : List ℕ) → kindOf m ≡ 20 → Begins (resumed h) (typesOf h ++ (20 ∷ [])) → finishedDue (placeOf h) ≡ true
@@ -70,12 +72,12 @@ module _ (h : History) (o : inOrder h ≡ true) where
       rw k at (ordered (accepted h m (under secret)) .begins i)
 
   finishes : (secret m : List ℕ) → length secret ≡ 48 → shapeNumber m ≡ 0 → kindOf m ≡ 20 → bodyOf m ≡ expectedValue h secret
-      → Begins (resumed h) (typesOf h ++ (20 ∷ [])) → finishNumber h secret m ≡ 0
+      → Begins (resumed h) (typesOf h ++ (20 ∷ [])) → finishNumber (whole h) secret m ≡ 0
   unfolding isFinished
   finishes secret m n f k v b =
-      finish-due secret m h n (fine m f) true true (rw (k, due-along secret m k b)) (rw v (same-refl (expectedValue h secret)))
+      finish-due secret m n (fine m f) h true true (rw (k, due-along secret m k b)) (rw v (same-refl (expectedValue h secret)))
 
-  finishes-only : (secret m : List ℕ) → finishNumber h secret m ≡ 0
+  finishes-only : (secret m : List ℕ) → finishNumber (whole h) secret m ≡ 0
       → Checked h m secret × Begins (resumed h) (typesOf h ++ (20 ∷ []))
   unfolding finishNumber isFinished
   finishes-only secret m e =
@@ -85,16 +87,17 @@ module _ (h : History) (o : inOrder h ≡ true) where
       ∷ (10, overlong m)
       ∷ (1, misstated m)
       ∷ (1, misshapen m)
+      ∷ (7, false)
       ∷ (7, not (isFinished m && finishedDue (placeOf h)))
       ∷ (8, not (same (bodyOf m) (expectedValue h secret)))
       ∷ [])
       refl e in
-      let t = not-false _ (none .1 .1 .1 .1 .0) in
+      let t = not-false _ (none .1 .1 .1 .1 .1 .0) in
       let k : kindOf m ≡ 20 = eqb-true (kindOf m) 20 (and-left (isFinished m) (finishedDue (placeOf h)) t) in (
         record {
           kind = k;
           sized = eqb-true (length secret) 48 (not-false _ (none .0));
-          value = same-true (bodyOf m) (expectedValue h secret) (not-false _ (none .1 .1 .1 .1 .1 .0));
+          value = same-true (bodyOf m) (expectedValue h secret) (not-false _ (none .1 .1 .1 .1 .1 .1 .0));
         },
         along-due secret m k (and-right (isFinished m) (finishedDue (placeOf h)) t),
       )
@@ -118,27 +121,31 @@ length-expected h secret = length-verify sha256-lawful secret _ _
 -- one call that is answered 0 and leads on by a type
 record Goes (resumes : Bool) (secret : List ℕ) (h : History) (kind : ℕ) : Type 0 where
   call : Call
-  taken : numberOf h call ≡ 0
+  next : History
+  taken : numberOf (whole h) call ≡ 0
+  leads : after (whole h) call ≡ whole next
   under : Under secret (call ∷ [])
-  order : inOrder (after h call) ≡ true
-  types : typesOf (after h call) ≡ typesOf h ++ (kind ∷ [])
-  place : placeOf (after h call) ≡ look kind (turns resumes (placeOf h))
+  order : inOrder next ≡ true
+  types : typesOf next ≡ typesOf h ++ (kind ∷ [])
+  place : placeOf next ≡ look kind (turns resumes (placeOf h))
 
 -- and several, by several types
 record Gone (resumes : Bool) (secret : List ℕ) (h : History) (rest : List ℕ) : Type 0 where
   calls : List Call
-  taken : AllTaken h calls
+  next : History
+  taken : AllTaken (whole h) calls
+  leads : standingFrom (whole h) calls ≡ whole next
   under : Under secret calls
-  order : inOrder (historyFrom h calls) ≡ true
-  types : typesOf (historyFrom h calls) ≡ typesOf h ++ rest
-  place : placeOf (historyFrom h calls) ≡ walk resumes (placeOf h) rest
+  order : inOrder next ≡ true
+  types : typesOf next ≡ typesOf h ++ rest
+  place : placeOf next ≡ walk resumes (placeOf h) rest
 
 module _ (resumes : Bool) (secret : List ℕ) (n : length secret ≡ 48) where
   module _ (h : History) (o : inOrder h ≡ true) (kind : ℕ) (d : isDue kind (turns resumes (placeOf h)) ≡ true) where
     hashed-type : kind ≡ 0 → ⊥
     hashed-type e = not-both (rw e at d) (none-hashed resumes (placeOf h))
 
-    goes-by : (c : Call) (m : List ℕ) (b : Beside) → numberOf h c ≡ 0 → after h c ≡ accepted h m b → Under secret (c ∷ []) → kindOf m ≡ kind
+    goes-by : (c : Call) (m : List ℕ) (b : Beside) → numberOf (whole h) c ≡ 0 → after (whole h) c ≡ whole (accepted h m b) → Under secret (c ∷ []) → kindOf m ≡ kind
         → isDue kind (turns (tells b) (placeOf h)) ≡ true → look kind (turns (tells b) (placeOf h)) ≡ look kind (turns resumes (placeOf h))
         → Goes resumes secret h kind
     unfolding inOrder outOfTurn typesOf placeOf
@@ -146,11 +153,13 @@ module _ (resumes : Bool) (secret : List ℕ) (n : length secret ≡ 48) where
         let f : eqb kind 0 ≡ false = ne-eqb kind 0 hashed-type in
         record {
           call = c;
+          next = accepted h m b;
           taken = z;
+          leads = e;
           under = u;
-          order = rw (e, k, f, t) o;
-          types = rw (e, k, f);
-          place = rw (e, k, f) x;
+          order = rw (k, f, t) o;
+          types = rw (k, f);
+          place = rw (k, f) x;
         }
 
     -- a type that is in turn, but 20: a message without a body will do
@@ -159,7 +168,7 @@ module _ (resumes : Bool) (secret : List ℕ) (n : length secret ≡ 48) where
     other k =
         let m : List ℕ = kind ∷ 0 ∷ 0 ∷ 0 ∷ [] in
         let f : shapeNumber m ≡ 0 = rw (ne-eqb kind 0 hashed-type, ne-eqb kind 20 k) in
-        let z : acceptNumber h m resumes ≡ 0 = accept-by m resumes h (fine m f) hashed-type k true d in
+        let z : acceptNumber (whole h) m resumes ≡ 0 = accept-by m resumes (fine m f) h hashed-type k true d in
         goes-by (accept m resumes) m (told resumes) z (rw z) tt refl d refl
 
     -- a Finished with what is expected of it
@@ -170,7 +179,7 @@ module _ (resumes : Bool) (secret : List ℕ) (n : length secret ≡ 48) where
         let t = told-by resumes false (placeOf h) kind (λ x. omega (arith, k, x)) in
         let e : isDue kind (turns false (placeOf h)) ≡ true = sym (t .0) ∙ d in
         let f : shapeNumber m ≡ 0 = rw (length-expected h secret) in
-        let z : finishNumber h secret m ≡ 0 = finish-due secret m h n (fine m f) true true (rw k at e) (same-refl (expectedValue h secret)) in
+        let z : finishNumber (whole h) secret m ≡ 0 = finish-due secret m n (fine m f) h true true (rw k at e) (same-refl (expectedValue h secret)) in
         goes-by (finish secret m) m (under secret) z (rw z) (refl, tt) (sym k) e (sym (t .1))
 
     one : Goes resumes secret h kind
@@ -180,16 +189,20 @@ module _ (resumes : Bool) (secret : List ℕ) (n : length secret ≡ 48) where
   unfolding Under
   before (accept m x) cs u v = v
   before (finish x m) cs u v = (u .0, v)
+  before (feed rest k x) cs u v = v
 
   all : (rest : List ℕ) (h : History) → inOrder h ≡ true → walks resumes (placeOf h) rest ≡ true → Gone resumes secret h rest
-  unfolding walks walk AllTaken Under historyFrom
-  all [] h o w = record { calls = []; taken = tt; under = tt; order = o; types = sym (append-nil (typesOf h)); place = refl }
+  unfolding walks walk AllTaken Under standingFrom
+  all [] h o w =
+      record { calls = []; next = h; taken = tt; leads = refl; under = tt; order = o; types = sym (append-nil (typesOf h)); place = refl }
   all (kind ∷ rest) h o w =
       let g = one h o kind (and-left (isDue kind (turns resumes (placeOf h))) _ w) in
-      let r = all rest (after h (g .call)) (g .order) (rw (g .place) (and-right (isDue kind (turns resumes (placeOf h))) _ w)) in
+      let r = all rest (g .next) (g .order) (rw (g .place) (and-right (isDue kind (turns resumes (placeOf h))) _ w)) in
       record {
         calls = g .call ∷ r .calls;
-        taken = (g .taken, r .taken);
+        next = r .next;
+        taken = (g .taken, rw (g .leads) (r .taken));
+        leads = rw (g .leads) (r .leads);
         under = before (g .call) (r .calls) (g .under) (r .under);
         order = r .order;
         types = r .types ∙ (rw (g .types) (append-assoc (typesOf h) (kind ∷ []) rest));
@@ -215,16 +228,16 @@ pub every-order : EveryOrder
 unfolding inOrder typesOf placeOf
 every-order resumes l secret n m =
     let g = all resumes secret n l fresh refl (orderly resumes .along l ([], rw append-nil m)) in
-    let h = historyFrom fresh (g .calls) in
+    let h = g .next in
     let e : number (placeOf h) ≡ pick resumes 16 13 = rw (g .place) (ends resumes l m) in
     let p : Placed (pick resumes 16 13) h = record { number = sym e; order = g .order } in
     record {
       calls = g .calls;
       taken = g .taken;
       under = g .under;
-      types = g .types;
-      told = placed-says (pick resumes 16 13) h p .resumed ∙ told-at resumes;
-      complete = sym (complete-by (pick resumes 16 13) h p) ∙ complete-at resumes;
+      types = rw (g .leads) (g .types);
+      told = rw (g .leads) (placed-says (pick resumes 16 13) h p .resumed ∙ told-at resumes);
+      complete = rw (g .leads) (sym (complete-by (pick resumes 16 13) h p) ∙ complete-at resumes);
     }
   where
     told-at : (b : Bool) → resumedAt (pick b 16 13) ≡ b

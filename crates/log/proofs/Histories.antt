@@ -15,6 +15,7 @@ use Rattle.log.specs.Order.{Place, turns, isDue, look}
 use Rattle.log.specs.Order.Place.{beginning, clientHello, serverHello, serverCertificate, serverKeyExchange, certificateRequest, helloDone, helloDoneRequested, clientCertificate, keyExchange, keyExchangeCertified, certificateVerify, clientFirst, completeFull, resumingHello, serverFirst, completeResumed, nowhere}
 use Rattle.log.specs.History.{History, tells, placeOf, exchanged, resumed, complete}
 use Rattle.log.specs.History.History.{fresh, accepted}
+use Rattle.log.specs.Standing.Standing.{whole}
 use Rattle.log.specs.Calls.{outOfTurn, inOrder, sessionNumber}
 use Rattle.log.specs.Orders.{orders, Begins, walk, walks, typesOf, Ordered}
 use Rattle.log.specs.Stands.{number, Placed}
@@ -177,7 +178,7 @@ ordered h = record { along = along; begins = begins; every = every; only = only;
     only : inOrder h ≡ true → complete h ≡ true → List·Memᴰ (typesOf h) (orders (resumed h))
     only o c = orderly (resumed h) .only (typesOf h) (rw (walked h o .ends) (ended-at (placeOf h) (complete-by (number (placeOf h)) h (placed o) ∙ c)))
 
-    unhashed : inOrder h ≡ true → resumed h ≡ true → sessionNumber h ≡ 7
+    unhashed : inOrder h ≡ true → resumed h ≡ true → sessionNumber (whole h) ≡ 7
     unhashed o r =
         let s = placed-says (number (placeOf h)) h (placed o) in
         rw (s .exchanged, unexchanged (placeOf h) (sym (s .resumed) ∙ r))

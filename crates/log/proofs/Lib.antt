@@ -2,11 +2,17 @@ pub mod Turns
 pub mod Places
 pub mod Messages
 pub mod Standing
+pub mod Alone
+pub mod Heads
+pub mod Entered
 pub mod Accepting
 pub mod Asking
 pub mod Finishing
+pub mod Feeding
 pub mod Orders
 pub mod Histories
 pub mod Calling
 pub mod Runs
 pub mod Total
+pub mod Parts
+pub mod Allowing

@@ -15,7 +15,7 @@ use Rattle.log.specs.Order.{Place, turns, isDue, look}
 use Rattle.log.specs.Order.Place.{beginning, completeFull, completeResumed, nowhere}
 use Rattle.log.specs.Orders.{orders, Begins, walk, walks, Ended, Orderly}
 use Rattle.log.specs.Stands.{number}
-use Rattle.log.proofs.Turns.{passes, each-place, same-place, not-due, turned}
+use Rattle.log.proofs.Turns.{passes, each-place, number-most, same-place, not-due, turned}
 
 -- where an order ends, by the numbers
 unfoldable pub ended : Place → Bool
@@ -56,8 +56,7 @@ lost resumes l e = false≢true (rw (walk-nowhere resumes l) at e)
 
 last-place : (p : Place) → 17 ≤ number p → p ≡ nowhere
 unfolding number passes
-last-place p h =
-    same-place p nowhere (omega (arith, leb-true (number p) 17 (each-place (λ q. leb (number q) 17) refl p)))
+last-place p h = same-place p nowhere (omega (arith, number-most p))
 
 mem-map : {k d : ℕ} {l : List ℕ} {ls : List (List ℕ)} → k ≡ d → List·Memᴰ l ls → List·Memᴰ (k ∷ l) (map (λ (x : List ℕ). d ∷ x) ls)
 mem-map e (List·Memᴰ·head f) = List·Memᴰ·head (ap₂ {C = List ℕ} (λ a b. a ∷ b) e f)

@@ -1,28 +1,31 @@
 -- Order 6's law. Each call hands back a log that stands for the history that the definitions give it; and where both Finished are taken,
 -- each side's value came with one that was checked.
 -- Assumes nothing.
-use mathlib.Core.Path.{_≡_, refl, sym, _∙_}
+use mathlib.Core.Path.{_≡_, refl, sym, _∙_, subst}
 use mathlib.Core.Bool.{Bool, true, false, not, _&&_, _||_, false≢true}
-use mathlib.Core.List.{List}
+use mathlib.Core.List.{List, _++_}
 use Prim.Native.Nat.{ℕ}
 use lib.Dec.{eqb}
+use lib.ListN.{length}
 use borrow.Author.Tests.{eq-eqb, ne-eqb, eqb-true, not-true, not-false}
 use Rattle.seqs.specs.Pick.{pick}
 use Rattle.seqs.specs.Cases.{and-left, and-right}
 use Rattle.message.specs.Frame.{kindOf, bodyOf}
 use Rattle.log.specs.Order.{turns, look, isDue}
-use Rattle.log.specs.History.{Beside, History, Side, tells, placeOf, fromServer, isFrom, complete, verifyDataOf}
+use Rattle.log.specs.History.{Beside, History, Side, tells, placeOf, fromServer, isFrom, resumed, complete, verifyDataOf}
 use Rattle.log.specs.History.History.{fresh, accepted}
 use Rattle.log.specs.History.Beside.{told, under}
 use Rattle.log.specs.History.Side.{client, server}
+use Rattle.log.specs.Standing.{Standing, Part, historyOf, leftOf}
+use Rattle.log.specs.Standing.Standing.{whole, parted}
 use Rattle.log.specs.Calls.{outOfTurn, inOrder}
 use Rattle.log.specs.Finish.{Compared}
 use Rattle.log.specs.Stands.{Stands, number}
-use Rattle.log.specs.Runs.{Call, after, historyFrom, Step, Run, Came, Theorem}
-use Rattle.log.specs.Runs.Step.{accepting, finishing}
+use Rattle.log.specs.Runs.{Call, after, standingFrom, Step, Run, Came, Theorem}
+use Rattle.log.specs.Runs.Step.{accepting, finishing, feeding}
 use Rattle.log.specs.Runs.Run.{done, next}
 use Rattle.log.specs.Runs.From.{here, later}
-use Rattle.log.specs.Orders.{OrderedRuns}
+use Rattle.log.specs.Orders.{Begins, typesOf, OrderedRuns}
 use Rattle.log.specs.declared.state.Log.{Log}
 use Rattle.log.proofs.Turns.{passes, clientAt, serverAt, serverDueAt, turned}
 use Rattle.log.proofs.Histories.{ordered}
@@ -110,29 +113,44 @@ both side h o c = by-side side
     by-side client = took h o .client ∙ or-more (eqb (number (placeOf h)) 12) (eqb (number (placeOf h)) 13 || eqb (number (placeOf h)) 16) ended
     by-side server = took h o .server ∙ or-more (eqb (number (placeOf h)) 15) (eqb (number (placeOf h)) 13 || eqb (number (placeOf h)) 16) ended
 
--- each call hands back a log that stands for the next history
-pub step-stands : (log log′ : Log) (h : History) (c : Call) → Stands log h → Step log c log′ → Stands log′ (after h c)
+-- each call hands back a log that stands for what the definitions say
+pub step-stands : (log log′ : Log) (s : Standing) (c : Call) → Stands log s → Step log c log′ → Stands log′ (after s c)
 unfolding after
-step-stands log log′ h c s (accepting a) = a .stands h s
-step-stands log log′ h c s (finishing f) = f .stands h s
+step-stands log log′ s c st (accepting a) = a .stands s st
+step-stands log log′ s c st (finishing f) = f .stands s st
+step-stands log log′ s c st (feeding f) = f .stands s st
 
-run-stands : (log log′ : Log) (h : History) (cs : List Call) → Stands log h → Run log cs log′ → Stands log′ (historyFrom h cs)
-unfolding historyFrom
-run-stands log log′ h cs s done = s
-run-stands log log′ h cs s (next {c = c} t r) = run-stands _ log′ (after h c) _ (step-stands log _ h c s t) r
+run-stands : (log log′ : Log) (s : Standing) (cs : List Call) → Stands log s → Run log cs log′ → Stands log′ (standingFrom s cs)
+unfolding standingFrom
+run-stands log log′ s cs st done = st
+run-stands log log′ s cs st (next {c = c} t r) = run-stands _ log′ (after s c) _ (step-stands log _ s c st t) r
 
 pub law : Theorem
 law log log′ cs f r =
-    let h = historyFrom fresh cs in
-    let s = run-stands log log′ fresh cs f r in
+    let s = standingFrom (whole fresh) cs in
+    let st = run-stands log log′ (whole fresh) cs f r in
     record {
-      stands = s;
-      compared = s .compared;
-      came = λ c side. came-by side h (s .compared) (both side h (s .place .order) c);
+      stands = st;
+      compared = st .compared;
+      came = λ c side. came-by side (historyOf s) (st .compared) (both side (historyOf s) (st .place .order) c);
     }
 
 pub ordered-runs : OrderedRuns
 ordered-runs log log′ cs f r =
-    let h = historyFrom fresh cs in
-    let o : inOrder h ≡ true = law log log′ cs f r .stands .place .order in
-    record { begins = ordered h .begins o; every = ordered h .every o; only = ordered h .only o; calls = both-calls h o }
+    let s = standingFrom (whole fresh) cs in
+    let st : Stands log′ s = law log log′ cs f r .stands in
+    let o : inOrder (historyOf s) ≡ true = st .place .order in
+    record {
+      begins = ordered (historyOf s) .begins o;
+      every = ordered (historyOf s) .every o;
+      only = ordered (historyOf s) .only o;
+      calls = λ _. both-calls (historyOf s) o;
+      parted = parted-on log′ s st;
+    }
+  where
+    -- what has begun is accepted when it is whole, and so leads on along an order
+    parted-on : (log : Log) (s : Standing) → Stands log s → (p : Part) → s ≡ parted (historyOf s) p → (rest : List ℕ) → length rest ≡ leftOf p
+        → Begins (resumed (accepted (historyOf s) (p .got ++ rest) (told (p .resumes)))) (typesOf (accepted (historyOf s) (p .got ++ rest) (told (p .resumes))))
+    parted-on log s st p e rest n =
+        let t : Stands log (parted (historyOf s) p) = subst (Stands log) e st in
+        both-calls (historyOf s) (st .place .order) .accepts-only (p .got ++ rest) (p .resumes) (t .part .judged rest n) .1

@@ -1,9 +1,9 @@
--- What each step keeps of `Stands`: a log that is fresh, that has accepted a HelloRequest, or that has taken a message.
+-- What each step keeps of `Stands`: a log that is fresh, that has accepted a HelloRequest, or that bytes of a message have entered.
 -- Assumes nothing.
-use mathlib.Core.Path.{_≡_, refl, _∙_}
-use mathlib.Core.Bool.{Bool, false, _&&_}
-use mathlib.Core.List.{List, [], _++_}
-use Prim.Native.Nat.{ℕ, _≤_}
+use mathlib.Core.Path.{_≡_, refl, sym, _∙_, ap, subst}
+use mathlib.Core.Bool.{Bool, true, false, _&&_}
+use mathlib.Core.List.{List, [], _++_, append-assoc}
+use Prim.Native.Nat.{ℕ, _+_, _≤_}
 use native.Mathlib.Omega.{arith}
 use lib.Dec.{eqb}
 use lib.ListN.{length, replicate, length-append}
@@ -11,21 +11,25 @@ use borrow.Author.Tests.{ne-eqb}
 use Rattle.seqs.specs.Pick.{pick}
 use Rattle.message.specs.Frame.{kindOf, bodyOf}
 use Rattle.sha256.specs.Sha256.{sha256}
-use Rattle.sha256.specs.Running.{Running}
-use Rattle.sha256.specs.declared.running.Hash.{Hash}
+use Rattle.sha256.specs.Running.{most}
+use Rattle.transcript.specs.Carries.{Carries}
+use Rattle.transcript.specs.Promise.{Enters}
+use Rattle.transcript.specs.declared.Transcript.{Transcript}
 use Rattle.log.specs.History.{Beside, History, tells, placeOf, hashed, sessionHash, isFrom, verifyDataOf}
 use Rattle.log.specs.History.History.{fresh, accepted}
 use Rattle.log.specs.History.Beside.{told}
 use Rattle.log.specs.History.Side.{client, server}
+use Rattle.log.specs.Standing.{Standing, historyOf, between, entered}
+use Rattle.log.specs.Standing.Standing.{whole, parted}
 use Rattle.log.specs.Calls.{outOfTurn, inOrder}
 use Rattle.log.specs.Finish.{Compared}
-use Rattle.log.specs.Stands.{Stands, number}
+use Rattle.log.specs.Stands.{Stands, Unparted, number}
 use Rattle.log.specs.Steps.{InTurn}
 use Rattle.log.specs.declared.state.Log.{Log}
 use Rattle.log.proofs.Turns.{turned}
 
-pub fresh-stands : (hash : Hash) → Running hash []
-    → Stands (record { hash = hash; place = 0; session = replicate 32 0; client = replicate 12 0; server = replicate 12 0 }) fresh
+pub fresh-stands : (hash : Transcript) → Carries hash []
+    → Stands (record { hash = hash; place = 0; session = replicate 32 0; client = replicate 12 0; server = replicate 12 0; kind = 0; next = 0; left = 0 }) (whole fresh)
 unfolding placeOf hashed number inOrder sessionHash verifyDataOf Compared
 fresh-stands hash r =
     record {
@@ -36,11 +40,12 @@ fresh-stands hash r =
       client = refl;
       server = refl;
       compared = tt;
+      part = record { kind = refl; next = refl; left = refl };
     }
 
 -- a log that has accepted a HelloRequest is as it was
-pub request-stands : (log : Log) (h : History) (m : List ℕ) (resumes : Bool) → Stands log h → kindOf m ≡ 0
-    → Stands log (accepted h m (told resumes))
+pub request-stands : (log : Log) (h : History) (m : List ℕ) (resumes : Bool) → Stands log (whole h) → kindOf m ≡ 0
+    → Stands log (whole (accepted h m (told resumes)))
 unfolding placeOf hashed outOfTurn inOrder sessionHash verifyDataOf Compared
 request-stands log h m resumes s k =
     record {
@@ -51,31 +56,57 @@ request-stands log h m resumes s k =
       client = rw k (s .client);
       server = rw k (s .server);
       compared = (λ e. omega (arith, k, e), s .compared);
+      part = s .part;
     }
 
-module _ (log : Log) (h : History) (m : List ℕ) (b : Beside) (k p : ℕ) (s : Stands log h) (t : InTurn h m b k p) where
+-- where no byte is left there is no message between parts
+pub by-whole : (log : Log) → log .left ≡ 0 → (P : Standing → Type 0) → ((h : History) → Stands log (whole h) → P (whole h))
+    → (s : Standing) → Stands log s → P s
+by-whole log e P f (whole h) st = f h st
+by-whole log e P f (parted h p) st = absurd (omega (arith, e, st .part .left, st .part .some))
+
+-- and where some are there is one
+pub by-parted : (log : Log) → (log .left ≡ 0 → ⊥) → (s : Standing) → Stands log s → between s ≡ true
+by-parted log e (whole h) st = absurd (e (st .part .left))
+by-parted log e (parted h p) st = refl
+
+-- bytes behind those that were taken of a message: both together are in turn
+module _ (log : Log) (s : Standing) (got bytes : List ℕ) (b : Beside) (k p : ℕ) (st : Stands log s) (e : entered s ≡ hashed (historyOf s) ++ got)
+    (size : length (got ++ bytes) ≤ 16388) (far : length (hashed (historyOf s)) ≤ 262208) where
+  -- the hash is far from its bound
+  pub room : length (entered s) + length bytes ≤ most
+  room =
+      let n : length (entered s) ≡ length (hashed (historyOf s)) + length got = ap length e ∙ length-append (hashed (historyOf s)) got in
+      omega (arith, n, length-append got bytes)
+
+  pub carried : (r : Transcript) (worked : ℕ) → Enters (log .hash) bytes r worked → Carries r (hashed (historyOf s) ++ (got ++ bytes))
+  carried r worked x =
+      subst (Carries r) (ap (λ (l : List ℕ). l ++ bytes) e ∙ append-assoc (hashed (historyOf s)) got bytes) (x .carries (entered s) (st .hash) room)
+
+module _ (log : Log) (s : Standing) (m : List ℕ) (b : Beside) (k p : ℕ) (st : Stands log s) (t : InTurn (historyOf s) m b k p) where
   other : eqb (kindOf m) 0 ≡ false
   other = ne-eqb (kindOf m) 0 (λ e. t .hashed (t .kind ∙ e))
 
-  -- the hash is far from its bound
-  pub far : length (hashed h) ≤ 262208
-  far = let u = turned (tells b) (placeOf h) (kindOf m) (t .due) in omega (arith, s .short, u .rises, u .most)
+  pub far : length (hashed (historyOf s)) ≤ 262208
+  far = let u = turned (tells b) (placeOf (historyOf s)) (kindOf m) (t .due) in omega (arith, st .short, u .rises, u .most)
 
   -- a log that has taken a message
-  pub taking-stands : (hash : Hash) (session value₁ value₂ : List ℕ) → Running hash (hashed h ++ m)
-      → session ≡ pick (eqb k 16) (sha256 (hashed h ++ m)) (log .session)
-      → value₁ ≡ pick (eqb k 20 && isFrom client h) (bodyOf m) (log .client)
-      → value₂ ≡ pick (eqb k 20 && isFrom server h) (bodyOf m) (log .server)
-      → Compared (accepted h m b)
-      → Stands (record { hash = hash; place = p; session = session; client = value₁; server = value₂ }) (accepted h m b)
+  pub taking-stands : (r : Log) → Carries (r .hash) (hashed (historyOf s) ++ m) → r .place ≡ p
+      → r .session ≡ pick (eqb k 16) (sha256 (hashed (historyOf s) ++ m)) (log .session)
+      → r .client ≡ pick (eqb k 20 && isFrom client (historyOf s)) (bodyOf m) (log .client)
+      → r .server ≡ pick (eqb k 20 && isFrom server (historyOf s)) (bodyOf m) (log .server)
+      → Unparted r
+      → Compared (accepted (historyOf s) m b)
+      → Stands r (whole (accepted (historyOf s) m b))
   unfolding placeOf hashed outOfTurn inOrder sessionHash verifyDataOf
-  taking-stands hash session value₁ value₂ r e f g c =
+  taking-stands r x q e f g u c =
       record {
-        place = record { number = rw other (t .place); order = rw (other, t .due) (s .place .order) };
-        hash = rw other r;
-        short = rw (other, length-append) (omega (arith, s .short, turned (tells b) (placeOf h) (kindOf m) (t .due) .rises, t .size));
-        session = e ∙ (rw (t .kind, s .session));
-        client = f ∙ (rw (t .kind, s .client));
-        server = g ∙ (rw (t .kind, s .server));
+        place = record { number = rw other (q ∙ t .place); order = rw (other, t .due) (st .place .order) };
+        hash = rw other x;
+        short = rw (other, length-append) (omega (arith, st .short, turned (tells b) (placeOf (historyOf s)) (kindOf m) (t .due) .rises, t .size));
+        session = e ∙ (rw (t .kind, st .session));
+        client = f ∙ (rw (t .kind, st .client));
+        server = g ∙ (rw (t .kind, st .server));
         compared = c;
+        part = u;
       }

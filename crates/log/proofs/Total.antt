@@ -2,12 +2,13 @@
 -- its contract.
 -- Assumes nothing.
 use mathlib.Core.Path.{_≡_, refl, sym, _∙_, ap, ap₂}
-use mathlib.Core.Bool.{Bool, true, false, not}
-use mathlib.Core.List.{List, [], _∷_, _++_}
-use Prim.Native.Nat.{ℕ}
+use mathlib.Core.Bool.{Bool, true, false, not, _&&_, false≢true}
+use mathlib.Core.List.{List, [], _∷_, _++_, append-nil}
+use Prim.Native.Nat.{ℕ, _+_, _-_, _≤_}
 use native.Mathlib.Omega.{arith}
 use lib.Dec.{eqb}
-use lib.ListN.{length}
+use lib.ListN.{length, take, replicate, length-append, length-replicate}
+use lib.Seq.{length-take-le}
 use borrow.Author.Tests.{eqb-true, eqb-false}
 use Rattle.seqs.specs.Cases.{by-test}
 use Rattle.refusal.specs.Table.{refusalOf, refusalAt}
@@ -15,31 +16,43 @@ use Rattle.refusal.specs.Listed.{number-at, row-number}
 use Rattle.refusal.specs.declared.Refusal.{Refusal}
 use Rattle.octets.specs.Same.{same}
 use Rattle.message.specs.Frame.{kindOf, bodyOf}
+use Rattle.sha256.specs.Sha256.{sha256}
+use Rattle.sha256.specs.Running.{most}
+use Rattle.transcript.specs.Allowance.{letIn}
+use Rattle.transcript.specs.Laws.{letIn-within, letIn-length}
+use Rattle.transcript.proofs.Further.{further, furtherWorked, further-enters, one-digest, same-length}
 use Rattle.prf.specs.Hash.{SHA256}
 use Rattle.prf.specs.Secrets.{verifyData}
-use Rattle.sha256.specs.Sha256.{sha256}
-use Rattle.sha256.proofs.Further.{further, further-runs, one-digest}
 use Rattle.log.specs.Order.{Place, turns, look, finishedDue}
-use Rattle.log.specs.History.{History, placeOf, hashed, fromServer}
+use Rattle.log.specs.History.{History, tells, placeOf, hashed, fromServer}
 use Rattle.log.specs.History.History.{fresh}
-use Rattle.log.specs.History.Beside.{told}
+use Rattle.log.specs.History.Beside.{told, under}
+use Rattle.log.specs.Standing.{Standing, historyOf, between, entered, leftOf}
+use Rattle.log.specs.Standing.Standing.{whole, parted}
 use Rattle.log.specs.Calls.{shapeNumber, brokenAt}
 use Rattle.log.specs.Finish.{expectedValue}
+use Rattle.log.specs.Feed.{badAllowance}
 use Rattle.log.specs.Stands.{Stands, Placed, number}
-use Rattle.log.specs.Steps.{Judges, TurnOf, LogAfter, Asks, Takes}
+use Rattle.log.specs.Steps.{Judges, InTurn, TurnOf, PartTurn, Entered, Asks, Takes}
+use Rattle.log.specs.Promise.{Feeds}
 use Rattle.log.specs.Runs.{Call, after, Step, Ran, Total}
-use Rattle.log.specs.Runs.Call.{accept, finish}
-use Rattle.log.specs.Runs.Step.{accepting, finishing}
+use Rattle.log.specs.Runs.Call.{accept, finish, feed}
+use Rattle.log.specs.Runs.Step.{accepting, finishing, feeding}
 use Rattle.log.specs.Runs.Run.{done, next}
 use Rattle.log.specs.declared.shape.Judged.{Judged}
 use Rattle.log.specs.declared.state.Log.{Log}
 use Rattle.log.specs.declared.state.Turn.{Turn}
-use Rattle.log.proofs.Turns.{same-place}
+use Rattle.log.specs.declared.answers.Fed.{Fed}
+use Rattle.log.proofs.Turns.{number-most, same-place}
 use Rattle.log.proofs.Places.{from-server-by}
-use Rattle.log.proofs.Standing.{far}
+use Rattle.log.proofs.Messages.{fine}
+use Rattle.log.proofs.Standing.{by-whole, far, room}
+use Rattle.log.proofs.Heads.{accepted-is}
+use Rattle.log.proofs.Entered.{entered-part, entered-exchange, entered-other}
 use Rattle.log.proofs.Runs.{step-stands}
-use Rattle.log.proofs.Accepting.{after-exchange, after-other, shape-turn, request-turn, finished-turn, out-turn, other-turn, refused-accepts, request-accepts, done-accepts}
+use Rattle.log.proofs.Accepting.{shape-turn, between-turn, request-turn, finished-turn, out-turn, other-turn, refused-accepts, request-accepts, done-accepts}
 use Rattle.log.proofs.Finishing.{Due, secret-asks, shape-asks, kind-asks, due-asks, done-asks, takes-server, takes-client, refused-finishes, compared-finishes, compares-differs, compares-equal}
+use Rattle.log.proofs.Feeding.{allowance-part, first-part, length-part, next-part, refused-feeds, request-feeds, done-feeds}
 
 unfoldable judged : List ℕ → Judged
 judged m = record { refusal = refusalAt (shapeNumber m) (brokenAt m); kind = kindOf m }
@@ -66,73 +79,176 @@ record Answered (log : Log) (c : Call) : Type 0 where
   left : Log
   step : Step log c left
 
-module _ (log : Log) (h : History) (s : Stands log h) where
-  -- another history that the log stands for has the same place
-  same-places : (p : Place) → log .place ≡ number p → placeOf h ≡ p
-  same-places p e = same-place (placeOf h) p (sym (s .place .number) ∙ e)
+-- an answer by allowance
+pub record FeedAnswer (log : Log) (rest : List ℕ) (k : ℕ) (resumes : Bool) : Type 0 where
+  pub answer : Fed
+  pub feeds : Feeds log rest k resumes answer
+
+-- bytes that there is room for enter a log
+record Entry (log : Log) (bytes : List ℕ) (k p left : ℕ) : Type 0 where
+  log′ : Log
+  worked : ℕ
+  enters : Entered log bytes k p left log′ worked
+
+-- the bytes that are left of a message are few
+left-most : (log : Log) (s : Standing) → Stands log s → log .left ≤ 65535
+left-most log (whole h) st = omega (arith, st .part .left)
+left-most log (parted h p) st =
+    let rest : List ℕ = replicate (leftOf p) 0 in
+    let n : length rest ≡ leftOf p = length-replicate (leftOf p) 0 in
+    let f = fine (p .got ++ rest) (accepted-is h (p .got ++ rest) (p .resumes) (st .part .judged rest n) .shape) in
+    omega (arith, st .part .left, length-append (p .got) rest, f .longest, n)
+
+-- what a log stands for is whole by the bytes that are left
+same-between : (log : Log) (s t : Standing) → Stands log s → Stands log t → between s ≡ between t
+same-between log (whole h) (whole g) p q = refl
+same-between log (whole h) (parted g r) p q = absurd (omega (arith, p .part .left, q .part .left, q .part .some))
+same-between log (parted h r) (whole g) p q = absurd (omega (arith, q .part .left, p .part .left, p .part .some))
+same-between log (parted h r) (parted g u) p q = refl
+
+-- what has entered is far from the hash's bound
+near : (log : Log) (s : Standing) → Stands log s → length (entered s) ≤ 294984
+near log (whole h) st = omega (arith, st .short, number-most (placeOf h))
+near log (parted h p) st =
+    let rest : List ℕ = replicate (leftOf p) 0 in
+    let n : length rest ≡ leftOf p = length-replicate (leftOf p) 0 in
+    let f = fine (p .got ++ rest) (accepted-is h (p .got ++ rest) (p .resumes) (st .part .judged rest n) .shape) in
+    omega (arith, st .short, number-most (placeOf h), length-append (hashed h) (p .got), length-append (p .got) rest, f .longest)
+
+module _ (log : Log) (s : Standing) (st : Stands log s) where
+  entry : (bytes : List ℕ) (k p left : ℕ) → length bytes ≤ 65535 → Entry log bytes k p left
+  entry bytes k p left l =
+      let g = further (log .hash) bytes in
+      let w = furtherWorked (log .hash) bytes in
+      let x = further-enters (log .hash) bytes in
+      by-test (eqb left 0)
+      (λ e.
+      let z : left ≡ 0 = eqb-true left 0 e in
+      by-test (eqb k 16)
+      (λ f.
+      record {
+        log′ = _;
+        worked = w;
+        enters =
+            entered-exchange log bytes k p left g w x z (eqb-true k 16 f) (sha256 (entered s ++ bytes))
+            (λ n c. one-digest g (entered s ++ bytes) n (x .carries (entered s) (st .hash) (omega (arith, near log s st, l))) c);
+      })
+      (λ f. record { log′ = _; worked = w; enters = entered-other log bytes k p left g w x z (eqb-false k 16 f) }))
+      (λ e. record { log′ = _; worked = w; enters = entered-part log bytes k p left g w x (eqb-false left 0 e) })
+
+  -- whatever else the log stands for has the same place
+  same-places : (p : Place) → log .place ≡ number p → placeOf (historyOf s) ≡ p
+  same-places p e = same-place (placeOf (historyOf s)) p (sym (st .place .number) ∙ e)
 
   module _ (m : List ℕ) (resumes : Bool) where
-    refused : (t : Turn) → TurnOf log m resumes t → (t .refusal .number ≡ 0 → ⊥) → Answered log (accept m resumes)
-    refused t o z = record { left = log; step = accepting (refused-accepts log m resumes t o z) }
+    -- what `turn` would hand out
+    record Turning : Type 0 where
+      turn : Turn
+      turned : TurnOf log m resumes turn
 
-    taken : (t : Turn) → TurnOf log m resumes t → t .refusal .number ≡ 0 → (t .kind ≡ 0 → ⊥) → (left : Log) → LogAfter log m (t .kind) (t .place) left
-        → Answered log (accept m resumes)
-    taken t o z k left a = record { left = left; step = accepting (done-accepts log m resumes t o z left k a) }
+    place : ℕ
+    place = number (look (kindOf m) (turns resumes (placeOf (historyOf s))))
 
-    requested : (t : Turn) → TurnOf log m resumes t → t .refusal .number ≡ 0 → t .kind ≡ 0 → Answered log (accept m resumes)
-    requested t o z k = record { left = log; step = accepting (request-accepts log m resumes t o z k) }
+    leads : (p : Place) → log .place ≡ number p → place ≡ number (look (kindOf m) (turns resumes p))
+    unfolding place
+    leads p e = ap (λ (q : Place). number (look (kindOf m) (turns resumes q))) (same-places p e)
 
-    module _ (z : judged m .refusal .number ≡ 0) (k : kindOf m ≡ 0 → ⊥) (g : kindOf m ≡ 20 → ⊥) where
-      place : ℕ
-      place = number (look (kindOf m) (turns resumes (placeOf h)))
-
-      leads : (p : Place) → log .place ≡ number p → place ≡ number (look (kindOf m) (turns resumes p))
-      unfolding place
-      leads p e = ap (λ (q : Place). number (look (kindOf m) (turns resumes q))) (same-places p e)
-
-      turned : (place ≡ 17 → ⊥) → Answered log (accept m resumes)
-      unfolding judged
-      turned n =
-          let t : Turn = record { refusal = judged m .refusal; kind = kindOf m; place = place } in
-          let o : TurnOf log m resumes t = other-turn log m resumes (judged m) (judges m) z k g place leads n in
-          let i = o .in-turn z k h s in
-          let r = further-runs (log .hash) m (hashed h) (s .hash) (omega (arith, far log h m (told resumes) (kindOf m) place s i, i .size)) in
-          by-test (eqb (kindOf m) 16)
-          (λ e.
-          taken t o z k _
-          (after-exchange log m (kindOf m) place (further (log .hash) m) (further-runs (log .hash) m) (sha256 (hashed h ++ m)) (eqb-true (kindOf m) 16 e)
-          (λ n q. one-digest (further (log .hash) m) (hashed h ++ m) n r q)))
-          (λ e. taken t o z k _ (after-other log m (kindOf m) place (further (log .hash) m) (further-runs (log .hash) m) (eqb-false (kindOf m) 16 e)))
-
-      in-turn : Answered log (accept m resumes)
-      unfolding judged
-      in-turn =
-          by-test (eqb place 17)
-          (λ e. refused _ (out-turn log m resumes (judged m) (judges m) z k g place leads (refusalOf 7) refl (eqb-true place 17 e)) seven)
-          (λ e. turned (eqb-false place 17 e))
-
-    accept-answered : Answered log (accept m resumes)
+    turning : Turning
     unfolding judged
-    accept-answered =
+    turning =
         by-test (eqb (shapeNumber m) 0)
         (λ e.
         let z = judged-number m ∙ eqb-true (shapeNumber m) 0 e in
+        by-test (eqb (log .left) 0)
+        (λ u.
+        let none = eqb-true (log .left) 0 u in
         by-test (eqb (kindOf m) 0)
-        (λ f. let k = eqb-true (kindOf m) 0 f in requested _ (request-turn log m resumes (judged m) (judges m) z k) z k)
+        (λ f. record { turn = _; turned = request-turn log m resumes (judged m) (judges m) z none (eqb-true (kindOf m) 0 f) })
         (λ f.
         by-test (eqb (kindOf m) 20)
-        (λ g. refused _ (finished-turn log m resumes (judged m) (judges m) z (refusalOf 7) refl (eqb-true (kindOf m) 20 g)) seven)
-        (λ g. in-turn z (eqb-false (kindOf m) 0 f) (eqb-false (kindOf m) 20 g))))
-        (λ e. let z = unjudged m e in refused _ (shape-turn log m resumes (judged m) (judges m) z) z)
+        (λ g. record { turn = _; turned = finished-turn log m resumes (judged m) (judges m) z none (refusalOf 7) refl (eqb-true (kindOf m) 20 g) })
+        (λ g.
+        let k = eqb-false (kindOf m) 0 f in
+        let o = eqb-false (kindOf m) 20 g in
+        by-test (eqb place 17)
+        (λ x. record { turn = _; turned = out-turn log m resumes (judged m) (judges m) z none k o place leads (refusalOf 7) refl (eqb-true place 17 x) })
+        (λ x. record { turn = _; turned = other-turn log m resumes (judged m) (judges m) z none k o place leads (eqb-false place 17 x) }))))
+        (λ u. record { turn = _; turned = between-turn log m resumes (judged m) (judges m) z (refusalOf 7) refl (eqb-false (log .left) 0 u) }))
+        (λ e. record { turn = _; turned = shape-turn log m resumes (judged m) (judges m) (unjudged m e) })
 
-  -- another history that the log stands for expects the same Finished, of the same side
-  same-side : (g : History) → Placed (log .place) g → fromServer h ≡ fromServer g
-  same-side g p = sym (from-server-by (log .place) h (s .place)) ∙ from-server-by (log .place) g p
+    accept-answered : Answered log (accept m resumes)
+    accept-answered =
+        let t = turning .turn in
+        let o = turning .turned in
+        by-test (eqb (t .refusal .number) 0)
+        (λ e.
+        let z = eqb-true (t .refusal .number) 0 e in
+        by-test (eqb (t .kind) 0)
+        (λ f. record { left = log; step = accepting (request-accepts log m resumes t o z (eqb-true (t .kind) 0 f)) })
+        (λ f.
+        let i = entry m (t .kind) (t .place) 0 (omega (arith, fine m (o .well z) .longest)) in
+        record { left = i .log′; step = accepting (done-accepts log m resumes t o z (i .log′) (i .worked) (eqb-false (t .kind) 0 f) (i .enters)) }))
+        (λ e. record { left = log; step = accepting (refused-accepts log m resumes t o (eqb-false (t .refusal .number) 0 e)) })
 
-  same-expected : (secret : List ℕ) (g : History) → Stands log g → expectedValue h secret ≡ expectedValue g secret
+  module _ (rest : List ℕ) (k : ℕ) (resumes : Bool) where
+    record Parting : Type 0 where
+      turn : Turn
+      parts : PartTurn log rest k resumes turn
+
+    parting : (log .left ≤ 65535) → Parting
+    parting l =
+        by-test (badAllowance k)
+        (λ b. record { turn = _; parts = allowance-part log rest k resumes (refusalOf 10) refl b })
+        (λ b.
+        by-test (eqb (log .left) 0)
+        (λ e.
+        record {
+          turn = turning rest resumes .turn;
+          parts = first-part log rest k resumes b (turning rest resumes .turn) (turning rest resumes .turned) (eqb-true (log .left) 0 e);
+        })
+        (λ e.
+        let n = eqb-false (log .left) 0 e in
+        by-test (eqb (length rest) (log .left))
+        (λ f. record { turn = _; parts = next-part log rest k resumes b n (refusalOf 0) refl (eqb-true (length rest) (log .left) f) l })
+        (λ f. record { turn = _; parts = length-part log rest k resumes b n (refusalOf 10) refl (eqb-false (length rest) (log .left) f) })))
+
+    pub feed-answered : FeedAnswer log rest k resumes
+    feed-answered =
+        let t = parting (left-most log s st) .turn in
+        let o = parting (left-most log s st) .parts in
+        by-test (eqb (t .refusal .number) 0)
+        (λ e.
+        let z = eqb-true (t .refusal .number) 0 e in
+        by-test (eqb (t .kind) 0)
+        (λ f. record { answer = _; feeds = request-feeds log rest k resumes t o z (eqb-true (t .kind) 0 f) })
+        (λ f.
+        let n : ℕ = letIn k (entered s) (length rest) in
+        let w : n ≤ length rest = letIn-within k (entered s) (length rest) in
+        let i = entry (take n rest) (t .kind) (t .place) (length rest - n) (omega (arith, o .size z, length-take-le n rest w)) in
+        record {
+          answer = record { refusal = t .refusal; log = i .log′; taken = n; blocks = i .worked };
+          feeds =
+              done-feeds log rest k resumes t o z n (i .log′) (i .worked) (eqb-false (t .kind) 0 f) w
+              (λ l c. letIn-length k (entered s) l (length rest) (same-length (st .hash) c)) (i .enters);
+        }))
+        (λ e. record { answer = _; feeds = refused-feeds log rest k resumes t o (eqb-false (t .refusal .number) 0 e) })
+
+  -- whatever else the log stands for expects the same Finished, of the same side
+  same-side : (g : History) → Placed (log .place) g → fromServer (historyOf s) ≡ fromServer g
+  same-side g p = sym (from-server-by (log .place) (historyOf s) (st .place)) ∙ from-server-by (log .place) g p
+
+  same-expected : (secret : List ℕ) (h g : History) → Stands log (whole h) → Stands log (whole g) → expectedValue h secret ≡ expectedValue g secret
   unfolding expectedValue
-  same-expected secret g t =
-      ap₂ (λ (b : Bool) (d : List ℕ). verifyData SHA256 secret b d) (same-side g (t .place)) (one-digest (log .hash) (hashed h) (hashed g) (s .hash) (t .hash))
+  same-expected secret h g p q =
+      ap₂ (λ (b : Bool) (d : List ℕ). verifyData SHA256 secret b d)
+      (sym (from-server-by (log .place) h (p .place)) ∙ from-server-by (log .place) g (q .place))
+      (one-digest (log .hash) (hashed h) (hashed g) (p .hash) (q .hash))
+
+  abbrev isDue : Bool
+  isDue = not (between s) && finishedDue (placeOf (historyOf s))
+
+  due : Due log isDue
+  due g q = ap₂ (λ (a : Bool) (p : Place). not a && finishedDue p) (same-between log s g st q) (same-places (placeOf (historyOf g)) (q .place .number))
 
   module _ (secret m : List ℕ) where
     unfinished : (r : Refusal) → Asks log secret m r → (r .number ≡ 0 → ⊥) → Answered log (finish secret m)
@@ -140,18 +256,27 @@ module _ (log : Log) (h : History) (s : Stands log h) where
 
     compared : (r : Refusal) → Asks log secret m r → r .number ≡ 0 → Answered log (finish secret m)
     compared r o z =
-        let v : List ℕ = expectedValue h secret in
+        let v : List ℕ = expectedValue (historyOf s) secret in
+        let u : (g : History) → Stands log (whole g) → v ≡ expectedValue g secret = λ g q. same-value g q in
         let d : (left : Log) → Takes log m v left → same (bodyOf m) v ≡ true → Answered log (finish secret m) =
         λ left t e.
-        record { left = left; step = finishing (compared-finishes log secret m r o z v (same-expected secret) _ (compares-equal log m v (same (bodyOf m) v) refl (refusalOf 0) e refl left t)) } in
-        let q : ℕ = number (look 20 (turns false (placeOf h))) in
+        record { left = left; step = finishing (compared-finishes log secret m r o z v u _ (compares-equal log m v (same (bodyOf m) v) refl (refusalOf 0) e refl left t)) } in
+        let q : ℕ = number (look 20 (turns false (placeOf (historyOf s)))) in
         let l : (p : Place) → log .place ≡ number p → q ≡ number (look 20 (turns false p)) = λ p e. ap (λ (x : Place). number (look 20 (turns false x))) (same-places p e) in
+        let i = entry m 20 q 0 (omega (arith, fine m (o .shape z) .longest)) in
         by-test (same (bodyOf m) v)
         (λ e.
-        by-test (fromServer h)
-        (λ f. d _ (takes-server log m v (further (log .hash) m) (further-runs (log .hash) m) q l (fromServer h) same-side f) e)
-        (λ f. d _ (takes-client log m v (further (log .hash) m) (further-runs (log .hash) m) q l (fromServer h) same-side f) e))
-        (λ e. record { left = log; step = finishing (compared-finishes log secret m r o z v (same-expected secret) _ (compares-differs log m v (same (bodyOf m) v) refl (refusalOf 8) e refl)) })
+        by-test (fromServer (historyOf s))
+        (λ f. d _ (takes-server log m v q (i .log′) (i .worked) (i .enters) l (fromServer (historyOf s)) same-side f) e)
+        (λ f. d _ (takes-client log m v q (i .log′) (i .worked) (i .enters) l (fromServer (historyOf s)) same-side f) e))
+        (λ e. record { left = log; step = finishing (compared-finishes log secret m r o z v u _ (compares-differs log m v (same (bodyOf m) v) refl (refusalOf 8) e refl)) })
+      where
+        same-value : (g : History) → Stands log (whole g) → expectedValue (historyOf s) secret ≡ expectedValue g secret
+        same-value g q = by-due s st (o .due z s st .0)
+          where
+            by-due : (t : Standing) → Stands log t → between t ≡ false → expectedValue (historyOf t) secret ≡ expectedValue g secret
+            by-due (whole h) p e = same-expected secret h g p q
+            by-due (parted h p) t e = absurd (false≢true (sym e))
 
     finish-answered : Answered log (finish secret m)
     unfolding judged
@@ -165,26 +290,24 @@ module _ (log : Log) (h : History) (s : Stands log h) where
         by-test (eqb (kindOf m) 20)
         (λ g.
         let k = eqb-true (kindOf m) 20 g in
-        by-test (not (finishedDue (placeOf h)))
-        (λ x. unfinished _ (due-asks log secret m n (judged m) (judges m) z k (finishedDue (placeOf h)) due x (refusalOf 7) refl) seven)
-        (λ x. compared _ (done-asks log secret m n (judged m) (judges m) z k (finishedDue (placeOf h)) due x) z))
+        by-test (not isDue)
+        (λ x. unfinished _ (due-asks log secret m n (judged m) (judges m) z k isDue due x (refusalOf 7) refl) seven)
+        (λ x. compared _ (done-asks log secret m n (judged m) (judges m) z k isDue due x) z))
         (λ g. unfinished _ (kind-asks log secret m n (judged m) (judges m) z (eqb-false (kindOf m) 20 g) (refusalOf 7) refl) seven))
         (λ f. let z = unjudged m f in unfinished _ (shape-asks log secret m n (judged m) (judges m) z) z))
         (λ e. unfinished _ (secret-asks log secret m (eqb-false (length secret) 48 e) (refusalOf 10) refl) ten)
-      where
-        due : Due log (finishedDue (placeOf h))
-        due p e = ap finishedDue (same-places p e)
 
   answered : (c : Call) → Answered log c
   answered (accept m resumes) = accept-answered m resumes
   answered (finish secret m) = finish-answered secret m
+  answered (feed rest k resumes) = let a = feed-answered rest k resumes in record { left = a .answer .log; step = feeding (a .feeds) }
 
-ran : (cs : List Call) (log : Log) (h : History) → Stands log h → Ran log cs
-ran [] log h s = record { left = log; run = done }
-ran (c ∷ cs) log h s =
-    let a = answered log h s c in
-    let r = ran cs (a .left) (after h c) (step-stands log (a .left) h c s (a .step)) in
+ran : (cs : List Call) (log : Log) (s : Standing) → Stands log s → Ran log cs
+ran [] log s st = record { left = log; run = done }
+ran (c ∷ cs) log s st =
+    let a = answered log s st c in
+    let r = ran cs (a .left) (after s c) (step-stands log (a .left) s c st (a .step)) in
     record { left = r .left; run = next (a .step) (r .run) }
 
 pub total : Total
-total log cs s = ran cs log fresh s
+total log cs st = ran cs log (whole fresh) st

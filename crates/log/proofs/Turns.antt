@@ -4,11 +4,11 @@
 use mathlib.Core.Path.{_≡_, refl, sym, _∙_, ap, subst}
 use mathlib.Core.Bool.{Bool, true, false, not, _&&_, _||_, false≢true}
 use mathlib.Core.List.{List, [], _∷_}
-use Prim.Native.Nat.{ℕ, zero, suc, _<_}
+use Prim.Native.Nat.{ℕ, zero, suc, _≤_, _<_}
 use native.Mathlib.Omega.{arith}
 use lib.Dec.{eqb, leb, ltb}
 use lib.ListN.{getD}
-use borrow.Author.Tests.{eqb-true, ltb-true, ne-eqb}
+use borrow.Author.Tests.{eqb-true, leb-true, ltb-true, ne-eqb}
 use Rattle.seqs.specs.Pick.{pick}
 use Rattle.seqs.specs.Cases.{by-test, and-left, and-right, or-left, or-right}
 use Rattle.log.specs.Order.{Place, look, turns, isDue}
@@ -170,6 +170,11 @@ pub turned : (resumes : Bool) (p : Place) (kind : ℕ) → isDue kind (turns res
 turned resumes p kind d =
     turned-by resumes (number p) kind (number (look kind (turns resumes p)))
     (each-due (λ kind q. turns-well resumes (number p) kind (number q)) kind (turns resumes p) (all-turned resumes p) d)
+
+-- the highest number is nowhere's
+pub number-most : (p : Place) → number p ≤ 17
+unfolding number passes
+number-most p = leb-true (number p) 17 (each-place (λ q. leb (number q) 17) refl p)
 
 -- ---- a row by numbers, as the code has it
 

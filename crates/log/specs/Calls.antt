@@ -1,5 +1,5 @@
 -- What each call answers, and the history after it (document 01, 'The message log'; the order of the numbers is that of 'Numbers
--- answered'). The call for a Finished is specs/Finish.antt.
+-- answered'). The call for a Finished is specs/Finish.antt, that by allowance specs/Feed.antt.
 -- Assumes nothing.
 use mathlib.Core.Bool.{Bool, true, not, _&&_, _||_}
 use mathlib.Core.List.{List, [], _∷_}
@@ -16,6 +16,8 @@ use Rattle.log.specs.History.{History, tells, placeOf, sessionHash, exch
 use Rattle.log.specs.History.Side.{client, server}
 use Rattle.log.specs.History.History.{fresh, accepted}
 use Rattle.log.specs.History.Beside.{told}
+use Rattle.log.specs.Standing.{Standing, historyOf, between}
+use Rattle.log.specs.Standing.Standing.{whole}
 use Rattle.log.specs.declared.answers.SessionHash.{SessionHash}
 use Rattle.log.specs.declared.answers.Finished.{Finished}
 
@@ -48,34 +50,41 @@ inOrder (accepted h m b) = not (outOfTurn h m (tells b)) && inOrder h
 unfoldable pub isFinished : List ℕ → Bool
 isFinished m = eqb (kindOf m) 20
 
--- accepting a message
-unfoldable pub acceptNumber : History → List ℕ → Bool → ℕ
-acceptNumber h m resumes =
+-- accepting a message; order 4: '7 for another log call between parts', here and below in 7's rank
+unfoldable pub acceptNumber : Standing → List ℕ → Bool → ℕ
+acceptNumber s m resumes =
     firstOf
     ((10, overlong m)
     ∷ (1, misstated m)
     ∷ (1, misshapen m)
+    ∷ (7, between s)
     ∷ (7, isFinished m)
-    ∷ (7, outOfTurn h m resumes)
+    ∷ (7, outOfTurn (historyOf s) m resumes)
     ∷ [])
 
-unfoldable pub afterAccept : History → List ℕ → Bool → History
-afterAccept h m resumes = pick (eqb (acceptNumber h m resumes) 0) (accepted h m (told resumes)) h
+unfoldable pub afterAccept : Standing → List ℕ → Bool → Standing
+afterAccept s m resumes = pick (eqb (acceptNumber s m resumes) 0) (whole (accepted (historyOf s) m (told resumes))) s
 
 -- the session hash; 'asked earlier, or in a resumed log, it is 7'
-unfoldable pub sessionNumber : History → ℕ
-sessionNumber h = firstOf ((7, not (exchanged h)) ∷ [])
+unfoldable pub sessionNumber : Standing → ℕ
+sessionNumber s = firstOf ((7, between s) ∷ (7, not (exchanged (historyOf s))) ∷ [])
 
-unfoldable pub sessionHashOf : History → SessionHash
-sessionHashOf h =
+unfoldable pub sessionHashOf : Standing → SessionHash
+sessionHashOf s =
     record {
-      refusal = refusalOf (sessionNumber h);
-      hash = pick (eqb (sessionNumber h) 0) (sessionHash h) (replicate 32 0);
+      refusal = refusalOf (sessionNumber s);
+      hash = pick (eqb (sessionNumber s) 0) (sessionHash (historyOf s)) (replicate 32 0);
     }
 
--- what completion asks of a log: are both Finished taken, does it resume, and 'both values', the client's and the server's; nothing before
-unfoldable pub finishedOf : History → Finished
-finishedOf h =
-    pick (complete h)
-    (record { complete = 1; resumed = bit (resumed h); client = verifyDataOf client h; server = verifyDataOf server h })
+-- what completion asks of a log: are both Finished taken, does it resume, and 'both values', the client's and the server's; nothing before,
+-- and nothing between parts
+unfoldable pub finishedOf : Standing → Finished
+finishedOf s =
+    pick (not (between s) && complete (historyOf s))
+    (record {
+      complete = 1;
+      resumed = bit (resumed (historyOf s));
+      client = verifyDataOf client (historyOf s);
+      server = verifyDataOf server (historyOf s);
+    })
     (record { complete = 0; resumed = 0; client = replicate 12 0; server = replicate 12 0 })

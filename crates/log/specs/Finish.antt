@@ -19,6 +19,8 @@ use Rattle.log.specs.Order.{finishedDue}
 use Rattle.log.specs.History.{History, placeOf, hashed, fromServer}
 use Rattle.log.specs.History.History.{fresh, accepted}
 use Rattle.log.specs.History.Beside.{told, under}
+use Rattle.log.specs.Standing.{Standing, historyOf, between}
+use Rattle.log.specs.Standing.Standing.{whole}
 use Rattle.log.specs.Calls.{misshapen, isFinished}
 use Rattle.log.specs.declared.answers.Expected.{Expected}
 
@@ -27,33 +29,38 @@ unfoldable pub expectedValue : History → List ℕ → List ℕ
 expectedValue h secret = verifyData SHA256 secret (fromServer h) (sha256 (hashed h))
 
 -- 'a third call gives them, with the same 10 and 7'
-unfoldable pub expectedNumber : History → List ℕ → ℕ
-expectedNumber h secret =
-    firstOf ((10, not (eqb (length secret) 48)) ∷ (7, not (finishedDue (placeOf h))) ∷ [])
+unfoldable pub expectedNumber : Standing → List ℕ → ℕ
+expectedNumber s secret =
+    firstOf
+    ((10, not (eqb (length secret) 48))
+    ∷ (7, between s)
+    ∷ (7, not (finishedDue (placeOf (historyOf s))))
+    ∷ [])
 
-unfoldable pub expectedOf : History → List ℕ → Expected
-expectedOf h secret =
+unfoldable pub expectedOf : Standing → List ℕ → Expected
+expectedOf s secret =
     record {
-      refusal = refusalOf (expectedNumber h secret);
-      value = pick (eqb (expectedNumber h secret) 0) (expectedValue h secret) (replicate 12 0);
+      refusal = refusalOf (expectedNumber s secret);
+      value = pick (eqb (expectedNumber s secret) 0) (expectedValue (historyOf s) secret) (replicate 12 0);
     }
 
 -- 'one call of the two: it checks the value and takes the message, or refuses': 'a 48-byte secret (else 10) and a message of type 20 that
 -- is due (else 7)'; 8: Finished value differs
-unfoldable pub finishNumber : History → List ℕ → List ℕ → ℕ
-finishNumber h secret m =
+unfoldable pub finishNumber : Standing → List ℕ → List ℕ → ℕ
+finishNumber s secret m =
     firstOf
     ((10, not (eqb (length secret) 48))
     ∷ (10, overlong m)
     ∷ (1, misstated m)
     ∷ (1, misshapen m)
-    ∷ (7, not (isFinished m && finishedDue (placeOf h)))
-    ∷ (8, not (same (bodyOf m) (expectedValue h secret)))
+    ∷ (7, between s)
+    ∷ (7, not (isFinished m && finishedDue (placeOf (historyOf s))))
+    ∷ (8, not (same (bodyOf m) (expectedValue (historyOf s) secret)))
     ∷ [])
 
 -- 'and leaves the log'
-unfoldable pub afterFinish : History → List ℕ → List ℕ → History
-afterFinish h secret m = pick (eqb (finishNumber h secret m) 0) (accepted h m (under secret)) h
+unfoldable pub afterFinish : Standing → List ℕ → List ℕ → Standing
+afterFinish s secret m = pick (eqb (finishNumber s secret m) 0) (whole (accepted (historyOf s) m (under secret))) s
 
 -- a Finished that was checked: it carries the expected value of its moment, the history before it, under the secret of that very call
 pub record Checked (h : History) (m secret : List ℕ) : Type 0 where

@@ -15,10 +15,12 @@ use Rattle.log.specs.Order.Place.{beginning, completeFull, completeResum
 use Rattle.log.specs.History.{History, resumed, complete}
 use Rattle.log.specs.History.History.{fresh, accepted}
 use Rattle.log.specs.History.Beside.{told}
+use Rattle.log.specs.Standing.{Standing, Part, historyOf, between, leftOf}
+use Rattle.log.specs.Standing.Standing.{whole, parted}
 use Rattle.log.specs.Calls.{shapeNumber, inOrder, acceptNumber, sessionNumber}
 use Rattle.log.specs.Finish.{expectedValue, finishNumber, Checked}
-use Rattle.log.specs.Runs.{Call, numberOf, after, historyFrom, Run}
-use Rattle.log.specs.Runs.Call.{accept, finish}
+use Rattle.log.specs.Runs.{Call, numberOf, after, standingFrom, Run}
+use Rattle.log.specs.Runs.Call.{accept, finish, feed}
 use Rattle.log.specs.Stands.{Stands}
 use Rattle.log.specs.declared.state.Log.{Log}
 
@@ -80,50 +82,54 @@ pub record Ordered (h : History) : Type 0 where
   pub every : inOrder h ≡ true → List·Memᴰ (typesOf h) (orders (resumed h)) → complete h ≡ true
   pub only : inOrder h ≡ true → complete h ≡ true → List·Memᴰ (typesOf h) (orders (resumed h))
   -- the session hash: 'in a resumed log, it is 7'
-  pub unhashed : inOrder h ≡ true → resumed h ≡ true → sessionNumber h ≡ 7
+  pub unhashed : inOrder h ≡ true → resumed h ≡ true → sessionNumber (whole h) ≡ 7
 
 -- Over both calls, on a history in order. The accepting call takes a well-formed message exactly if its type leads on along an order and is
 -- not 20; the joined call takes type 20 exactly if that leads on and the value is the expected one.
 pub record BothCalls (h : History) : Type 0 where
   pub accepts : (m : List ℕ) (resumes : Bool) → shapeNumber m ≡ 0 → (kindOf m ≡ 20 → ⊥)
-      → Begins (resumed (accepted h m (told resumes))) (typesOf (accepted h m (told resumes))) → acceptNumber h m resumes ≡ 0
-  pub accepts-only : (m : List ℕ) (resumes : Bool) → acceptNumber h m resumes ≡ 0
+      → Begins (resumed (accepted h m (told resumes))) (typesOf (accepted h m (told resumes))) → acceptNumber (whole h) m resumes ≡ 0
+  pub accepts-only : (m : List ℕ) (resumes : Bool) → acceptNumber (whole h) m resumes ≡ 0
       → (kindOf m ≡ 20 → ⊥) × Begins (resumed (accepted h m (told resumes))) (typesOf (accepted h m (told resumes)))
   pub finishes : (secret m : List ℕ) → length secret ≡ 48 → shapeNumber m ≡ 0 → kindOf m ≡ 20 → bodyOf m ≡ expectedValue h secret
-      → Begins (resumed h) (typesOf h ++ (20 ∷ [])) → finishNumber h secret m ≡ 0
-  pub finishes-only : (secret m : List ℕ) → finishNumber h secret m ≡ 0
+      → Begins (resumed h) (typesOf h ++ (20 ∷ [])) → finishNumber (whole h) secret m ≡ 0
+  pub finishes-only : (secret m : List ℕ) → finishNumber (whole h) secret m ≡ 0
       → Checked h m secret × Begins (resumed h) (typesOf h ++ (20 ∷ []))
 
 -- By the contracts alone: after every list of calls from a fresh log the types of the accepted messages begin an order, both Finished are
--- taken exactly if they are one, and the next call answers so.
-pub record OrderedBy (h : History) : Type 0 where
-  pub begins : Begins (resumed h) (typesOf h)
-  pub every : List·Memᴰ (typesOf h) (orders (resumed h)) → complete h ≡ true
-  pub only : complete h ≡ true → List·Memᴰ (typesOf h) (orders (resumed h))
-  pub calls : BothCalls h
+-- taken exactly if they are one, and the next call answers so; between parts the message leads on along an order, whatever its rest will be.
+pub record OrderedBy (s : Standing) : Type 0 where
+  pub begins : Begins (resumed (historyOf s)) (typesOf (historyOf s))
+  pub every : List·Memᴰ (typesOf (historyOf s)) (orders (resumed (historyOf s))) → complete (historyOf s) ≡ true
+  pub only : complete (historyOf s) ≡ true → List·Memᴰ (typesOf (historyOf s)) (orders (resumed (historyOf s)))
+  pub calls : between s ≡ false → BothCalls (historyOf s)
+  pub parted : (p : Part) → s ≡ parted (historyOf s) p → (rest : List ℕ) → length rest ≡ leftOf p
+      → Begins (resumed (accepted (historyOf s) (p .got ++ rest) (told (p .resumes)))) (typesOf (accepted (historyOf s) (p .got ++ rest) (told (p .resumes))))
 
 abbrev pub OrderedRuns : Type 0
-OrderedRuns = (log log′ : Log) (cs : List Call) → Stands log fresh → Run log cs log′ → OrderedBy (historyFrom fresh cs)
+OrderedRuns =
+    (log log′ : Log) (cs : List Call) → Stands log (whole fresh) → Run log cs log′ → OrderedBy (standingFrom (whole fresh) cs)
 
 -- each call is answered 0
-unfoldable pub AllTaken : History → List Call → Type 0
-AllTaken h [] = Unit {0}
-AllTaken h (c ∷ cs) = (numberOf h c ≡ 0) × AllTaken (after h c) cs
+unfoldable pub AllTaken : Standing → List Call → Type 0
+AllTaken s [] = Unit {0}
+AllTaken s (c ∷ cs) = (numberOf s c ≡ 0) × AllTaken (after s c) cs
 
 -- the joined call is handed this secret, wherever it is called
 unfoldable pub Under : List ℕ → List Call → Type 0
 Under secret [] = Unit {0}
 Under secret (accept m resumes ∷ cs) = Under secret cs
 Under secret (finish other m ∷ cs) = (other ≡ secret) × Under secret cs
+Under secret (feed rest k resumes ∷ cs) = Under secret cs
 
 -- And every order is completed, under any secret of 48 bytes, by calls that are all answered 0.
 pub record Completed (resumes : Bool) (l secret : List ℕ) : Type 0 where
   pub calls : List Call
-  pub taken : AllTaken fresh calls
+  pub taken : AllTaken (whole fresh) calls
   pub under : Under secret calls
-  pub types : typesOf (historyFrom fresh calls) ≡ l
-  pub told : resumed (historyFrom fresh calls) ≡ resumes
-  pub complete : complete (historyFrom fresh calls) ≡ true
+  pub types : typesOf (historyOf (standingFrom (whole fresh) calls)) ≡ l
+  pub told : resumed (historyOf (standingFrom (whole fresh) calls)) ≡ resumes
+  pub complete : complete (historyOf (standingFrom (whole fresh) calls)) ≡ true
 
 abbrev pub EveryOrder : Type 0
 EveryOrder = (resumes : Bool) (l secret : List ℕ) → length secret ≡ 48 → List·Memᴰ l (orders resumes) → Completed resumes l secret

@@ -9,36 +9,44 @@ use Rattle.message.specs.Frame.{bodyOf}
 use Rattle.log.specs.History.{Beside, History, Side, isFrom, complete, verifyDataOf}
 use Rattle.log.specs.History.History.{fresh, accepted}
 use Rattle.log.specs.History.Beside.{under}
+use Rattle.log.specs.Standing.{Standing, historyOf}
+use Rattle.log.specs.Standing.Standing.{whole}
 use Rattle.log.specs.Calls.{acceptNumber, afterAccept}
 use Rattle.log.specs.Finish.{finishNumber, afterFinish, Checked, Compared}
+use Rattle.log.specs.Feed.{feedNumber, afterFeed}
 use Rattle.log.specs.Stands.{Stands}
-use Rattle.log.specs.Promise.{Accepts, Finishes}
+use Rattle.log.specs.Promise.{Accepts, Finishes, Feeds}
 use Rattle.log.specs.declared.state.Log.{Log}
 use Rattle.log.specs.declared.answers.Accepted.{Accepted}
+use Rattle.log.specs.declared.answers.Fed.{Fed}
 
 -- the calls that hand back a log, with what they are handed beside it
 pub data Call : Type 0 where
   accept : List ℕ → Bool → Call
   finish : List ℕ → List ℕ → Call
+  feed : List ℕ → ℕ → Bool → Call
 
--- what the definitions answer, and the history after it
-unfoldable pub numberOf : History → Call → ℕ
-numberOf h (accept m resumes) = acceptNumber h m resumes
-numberOf h (finish secret m) = finishNumber h secret m
+-- what the definitions answer, and what the log stands for after it
+unfoldable pub numberOf : Standing → Call → ℕ
+numberOf s (accept m resumes) = acceptNumber s m resumes
+numberOf s (finish secret m) = finishNumber s secret m
+numberOf s (feed rest k resumes) = feedNumber s rest k resumes
 
-unfoldable pub after : History → Call → History
-after h (accept m resumes) = afterAccept h m resumes
-after h (finish secret m) = afterFinish h secret m
+unfoldable pub after : Standing → Call → Standing
+after s (accept m resumes) = afterAccept s m resumes
+after s (finish secret m) = afterFinish s secret m
+after s (feed rest k resumes) = afterFeed s rest k resumes
 
-unfoldable pub historyFrom : History → List Call → History
-historyFrom h [] = h
-historyFrom h (c ∷ cs) = historyFrom (after h c) cs
+unfoldable pub standingFrom : Standing → List Call → Standing
+standingFrom s [] = s
+standingFrom s (c ∷ cs) = standingFrom (after s c) cs
 
--- One call on a log: the log passed, the call, and the log afterwards. The premises are what the contracts of the two calls ensure, and
+-- One call on a log: the log passed, the call, and the log afterwards. The premises are what the contracts of the three calls ensure, and
 -- nothing else.
 pub data Step : Log → Call → Log → Type 0 where
   accepting : {log : Log} {m : List ℕ} {resumes : Bool} {r : Accepted} → Accepts log m resumes r → Step log (accept m resumes) (r .log)
   finishing : {log : Log} {secret m : List ℕ} {r : Accepted} → Finishes log secret m r → Step log (finish secret m) (r .log)
+  feeding : {log : Log} {rest : List ℕ} {k : ℕ} {resumes : Bool} {r : Fed} → Feeds log rest k resumes r → Step log (feed rest k resumes) (r .log)
 
 -- each call gets the log that the one before it handed back
 pub data Run : Log → List Call → Log → Type 0 where
@@ -60,18 +68,18 @@ pub record Came (side : Side) (h : History) (value : List ℕ) : Type 0 where
   pub checked : Checked before message secret
   pub carried : value ≡ bodyOf message
 
--- of a log that calls made, and of the history that the definitions give these calls
-pub record Law (log : Log) (h : History) : Type 0 where
+-- of a log that calls made, and of what the definitions say that these calls lead to
+pub record Law (log : Log) (s : Standing) : Type 0 where
   -- the log stands for it: what the contracts of all calls speak of
-  pub stands : Stands log h
+  pub stands : Stands log s
   -- each Finished that was accepted carried the expected value of its moment
-  pub compared : Compared h
+  pub compared : Compared (historyOf s)
   -- and where both are taken, so did those that the two values came with
-  pub came : complete h ≡ true → (side : Side) → Came side h (verifyDataOf side h)
+  pub came : complete (historyOf s) ≡ true → (side : Side) → Came side (historyOf s) (verifyDataOf side (historyOf s))
 
 -- every list of calls from a fresh log, refused ones included, with whatever arguments, in whatever order
 abbrev pub Theorem : Type 0
-Theorem = (log log′ : Log) (cs : List Call) → Stands log fresh → Run log cs log′ → Law log′ (historyFrom fresh cs)
+Theorem = (log log′ : Log) (cs : List Call) → Stands log (whole fresh) → Run log cs log′ → Law log′ (standingFrom (whole fresh) cs)
 
 -- It speaks of every list, and not only of those that happen to have a run: from a fresh log every list of calls has one.
 pub record Ran (log : Log) (cs : List Call) : Type 0 where
@@ -79,4 +87,4 @@ pub record Ran (log : Log) (cs : List Call) : Type 0 where
   pub run : Run log cs left
 
 abbrev pub Total : Type 0
-Total = (log : Log) (cs : List Call) → Stands log fresh → Ran log cs
+Total = (log : Log) (cs : List Call) → Stands log (whole fresh) → Ran log cs

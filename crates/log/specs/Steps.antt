@@ -2,20 +2,28 @@
 -- Assumes nothing.
 use mathlib.Core.Path.{_≡_}
 use mathlib.Core.Bool.{Bool, true, false}
-use mathlib.Core.List.{List}
+use mathlib.Core.List.{List, _++_}
 use Prim.Native.Nat.{ℕ, _≤_}
+use lib.Dec.{eqb}
 use lib.ListN.{length}
+use Rattle.seqs.specs.Pick.{pick}
 use Rattle.octets.specs.Same.{same}
 use Rattle.refusal.specs.Table.{refusalOf, refusalAt}
 use Rattle.refusal.specs.declared.Refusal.{Refusal}
 use Rattle.message.specs.Frame.{kindOf, bodyOf}
+use Rattle.sha256.specs.Sha256.{sha256}
+use Rattle.transcript.specs.Carries.{Carries}
+use Rattle.transcript.specs.Promise.{Enters}
 use Rattle.log.specs.Order.{turns, look, isDue, finishedDue}
-use Rattle.log.specs.History.{Beside, History, tells, placeOf}
+use Rattle.log.specs.History.{Beside, History, tells, placeOf, hashed}
 use Rattle.log.specs.History.History.{accepted}
 use Rattle.log.specs.History.Beside.{told, under}
+use Rattle.log.specs.Standing.{Standing, historyOf, between, entered}
+use Rattle.log.specs.Standing.Standing.{whole}
 use Rattle.log.specs.Calls.{shapeNumber, brokenAt, acceptNumber}
 use Rattle.log.specs.Finish.{finishNumber, Checked}
-use Rattle.log.specs.Stands.{Stands, number}
+use Rattle.log.specs.Feed.{begun, feedNumber}
+use Rattle.log.specs.Stands.{Stands, Unparted, number}
 use Rattle.log.specs.declared.shape.Judged.{Judged}
 use Rattle.log.specs.declared.state.Log.{Log}
 use Rattle.log.specs.declared.state.Turn.{Turn}
@@ -38,32 +46,55 @@ pub record InTurn (h : History) (m : List ℕ) (b : Beside) (k p : ℕ) : Type 0
 pub record TurnOf (log : Log) (m : List ℕ) (resumes : Bool) (t : Turn) : Type 0 where
   pub within : t .refusal .number ≤ 11
   pub placed : t .refusal ≡ refusalAt (t .refusal .number) (brokenAt m)
-  pub number : (h : History) → Stands log h → acceptNumber h m resumes ≡ t .refusal .number
-  pub fed : kindOf m ≡ 20 → (h : History) → acceptNumber h m resumes ≡ t .refusal .number
+  pub number : (s : Standing) → Stands log s → acceptNumber s m resumes ≡ t .refusal .number
+  pub fed : kindOf m ≡ 20 → (s : Standing) → acceptNumber s m resumes ≡ t .refusal .number
   pub other : t .refusal .number ≡ 0 → kindOf m ≡ 20 → ⊥
+  pub well : t .refusal .number ≡ 0 → shapeNumber m ≡ 0
   pub request : t .refusal .number ≡ 0 → t .kind ≡ 0 → kindOf m ≡ 0
-  pub in-turn : t .refusal .number ≡ 0 → (t .kind ≡ 0 → ⊥) → (h : History) → Stands log h → InTurn h m (told resumes) (t .kind) (t .place)
+  pub in-turn : t .refusal .number ≡ 0 → (t .kind ≡ 0 → ⊥) → (h : History) → Stands log (whole h) → InTurn h m (told resumes) (t .kind) (t .place)
 
--- the log that has taken one in turn
-abbrev pub LogAfter : Log → List ℕ → ℕ → ℕ → Log → Type 0
-LogAfter log m k p r =
-    (h : History) (resumes : Bool) → Stands log h → (kindOf m ≡ 20 → ⊥) → InTurn h m (told resumes) k p → Stands r (accepted h m (told resumes))
+-- the rest of a message that is in turn: what is known of both together before any of it is taken
+pub record Entering (s : Standing) (rest : List ℕ) (resumes : Bool) (k p : ℕ) : Type 0 where
+  pub before : entered s ≡ hashed (historyOf s) ++ begun s rest resumes .got
+  pub total : length (begun s rest resumes .got ++ rest) ≡ begun s rest resumes .total
+  pub accepts : acceptNumber (whole (historyOf s)) (begun s rest resumes .got ++ rest) (begun s rest resumes .resumes) ≡ 0
+  pub in-turn : InTurn (historyOf s) (begun s rest resumes .got ++ rest) (told (begun s rest resumes .resumes)) k p
+
+-- what is to be done with the rest of a message: its number, and where that is 0 a HelloRequest or the rest of a message that is in turn
+pub record PartTurn (log : Log) (rest : List ℕ) (k : ℕ) (resumes : Bool) (t : Turn) : Type 0 where
+  pub within : t .refusal .number ≤ 11
+  pub placed : t .refusal ≡ refusalAt (t .refusal .number) (brokenAt rest)
+  pub number : (s : Standing) → Stands log s → feedNumber s rest k resumes ≡ t .refusal .number
+  pub allowed : t .refusal .number ≡ 0 → (1 ≤ k) × (k ≤ 256)
+  pub size : t .refusal .number ≡ 0 → length rest ≤ 65535
+  pub request : t .refusal .number ≡ 0 → t .kind ≡ 0 → (s : Standing) → Stands log s → (between s ≡ false) × (kindOf rest ≡ 0) × (length rest ≡ 4)
+  pub enters : t .refusal .number ≡ 0 → (t .kind ≡ 0 → ⊥) → (s : Standing) → Stands log s → Entering s rest resumes (t .kind) (t .place)
+
+-- the log that bytes of a message have entered: left of it are still to come, or none and it is accepted
+pub record Entered (log : Log) (bytes : List ℕ) (k p left : ℕ) (r : Log) (worked : ℕ) : Type 0 where
+  pub hash : Enters (log .hash) bytes (r .hash) worked
+  pub client : r .client ≡ log .client
+  pub server : r .server ≡ log .server
+  pub parted : (left ≡ 0 → ⊥)
+      → (r .place ≡ log .place) × (r .session ≡ log .session) × (r .kind ≡ k) × (r .next ≡ p) × (r .left ≡ left)
+  pub last : left ≡ 0 → (r .place ≡ p) × Unparted r
+  pub session : left ≡ 0 → (m : List ℕ) → Carries (r .hash) m → r .session ≡ pick (eqb k 16) (sha256 m) (log .session)
 
 -- what is asked of a Finished before its value: refused by r, or a Finished that is due
 pub record Asks (log : Log) (secret m : List ℕ) (r : Refusal) : Type 0 where
   pub within : r .number ≤ 11
   pub placed : r ≡ refusalAt (r .number) (brokenAt m)
-  pub refused : (r .number ≡ 0 → ⊥) → (h : History) → Stands log h → finishNumber h secret m ≡ r .number
+  pub refused : (r .number ≡ 0 → ⊥) → (s : Standing) → Stands log s → finishNumber s secret m ≡ r .number
   pub sized : r .number ≡ 0 → length secret ≡ 48
   pub shape : r .number ≡ 0 → shapeNumber m ≡ 0
   pub kind : r .number ≡ 0 → kindOf m ≡ 20
-  pub due : r .number ≡ 0 → (h : History) → Stands log h → finishedDue (placeOf h) ≡ true
+  pub due : r .number ≡ 0 → (s : Standing) → Stands log s → (between s ≡ false) × (finishedDue (placeOf (historyOf s)) ≡ true)
 
 -- the log that has taken a Finished, with this verify_data
 abbrev pub Takes : Log → List ℕ → List ℕ → Log → Type 0
 Takes log m value r =
-    (h : History) (secret : List ℕ) → Stands log h → length m ≤ 16388 → finishedDue (placeOf h) ≡ true → Checked h m secret → bodyOf m ≡ value
-    → Stands r (accepted h m (under secret))
+    (h : History) (secret : List ℕ) → Stands log (whole h) → length m ≤ 16388 → finishedDue (placeOf h) ≡ true → Checked h m secret → bodyOf m ≡ value
+    → Stands r (whole (accepted h m (under secret)))
 
 -- one that is due, by its value: refused by 8, or taken
 pub record Compares (log : Log) (m value : List ℕ) (r : Accepted) : Type 0 where

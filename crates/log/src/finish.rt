@@ -7,10 +7,14 @@ use crate::state::Log;
 use refusal::Refusal;
 use refusal::refuse;
 ghost use mathlib.Core.Path.{_≡_};
+ghost use mathlib.Core.Bool.{not, _&&_};
 ghost use Prim.Native.Nat.{_≤_};
 ghost use lib.ListN.{length, replicate};
 ghost use Rattle.refusal.specs.Table.{refusalOf};
-ghost use Rattle.log.specs.History.{History};
+ghost use Rattle.log.specs.Order.{finishedDue};
+ghost use Rattle.log.specs.History.{History, placeOf};
+ghost use Rattle.log.specs.Standing.{Standing, historyOf, between};
+ghost use Rattle.log.specs.Standing.Standing.{whole};
 ghost use Rattle.log.specs.Finish.{expectedValue};
 ghost use Rattle.log.specs.Stands.{Stands};
 ghost use Rattle.log.specs.Promise.{Finishes, Expects};
@@ -37,15 +41,18 @@ impl Log {
         requires { ⌜ 4 ≤ length (now message) ⌝ }
         ensures { λ r. ⌜ Compares self (now (message .entry)) value r ⌝ }
     {
-        let refusal = refuse(0);
-        let mut r = Accepted { refusal, log: self };
         let equal = shape::carries(message, value);
         if !equal {
-            r.refusal = refuse(8);
-            return r;
+            return Accepted {
+                refusal: refuse(8),
+                log: self,
+            };
         }
-        r.log = self.taking(message, value);
-        r
+        let log = self.taking(message, value);
+        Accepted {
+            refusal: refuse(0),
+            log,
+        }
     }
 
     // The log that has taken a Finished with this verify_data.
@@ -53,8 +60,9 @@ impl Log {
         ensures { λ r. ⌜ Takes self (now (message .entry)) value r ⌝ }
     {
         let server = order::from_server(self.place);
-        self.hash = self.hash.more(message);
-        self.place = order::next(self.place, shape::FINISHED, false);
+        let place = order::next(self.place, shape::FINISHED, false);
+        let mut worked = 0;
+        self = self.entered(message, shape::FINISHED, place, 0, &mut worked);
         if server {
             self.server = value;
             return self;
@@ -78,10 +86,17 @@ impl Log {
         if judged.kind != shape::FINISHED {
             return refuse(7);
         }
-        if !order::finished_due(self.place) {
+        if !self.due() {
             return refuse(7);
         }
         refusal
+    }
+
+    // Is a Finished in turn? Between the parts of a message nothing is.
+    fn due(self) -> bool
+        ensures { λ r. ⌜ ((s : Standing) → Stands self s → r ≡ (not (between s) && finishedDue (placeOf (historyOf s)))) ⌝ }
+    {
+        self.left == 0 && order::finished_due(self.place)
     }
 
     // verify_data of the Finished that is due.
@@ -91,7 +106,7 @@ impl Log {
         if secret.len() != SECRET {
             return unexpected(10);
         }
-        if !order::finished_due(self.place) {
+        if !self.due() {
             return unexpected(7);
         }
         let refusal = refuse(0);
@@ -101,7 +116,7 @@ impl Log {
 
     fn expected_value(self, secret: &[u8]) -> [u8; 12]
         requires { ⌜ length (now secret) ≡ 48 ⌝ }
-        ensures { λ r. ⌜ ((h : History) → Stands self h → r ≡ expectedValue h (now (secret .entry))) ⌝ }
+        ensures { λ r. ⌜ ((h : History) → Stands self (whole h) → r ≡ expectedValue h (now (secret .entry))) ⌝ }
     {
         let hash = self.hash;
         let verified = prf::verify_data(secret, order::from_server(self.place), hash.digest());

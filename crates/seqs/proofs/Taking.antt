@@ -9,7 +9,7 @@ use native.Mathlib.Omega.{arith}
 use lib.ListN.{length, take, drop, replicate, length-append, length-drop, drop-of-length-le}
 use lib.Seq.{length-take-le, drop-append-le, drop-drop, take-append-add, drop-append-add, paste, take-all, take-at, take-length}
 use Rattle.seqs.specs.Blocks.{after}
-use Rattle.seqs.specs.Taken.{leftOf, waiting, Holds}
+use Rattle.seqs.specs.Taken.{wholeBlocks, completed, leftOf, waiting, Holds, CompletedAreSteps}
 use Rattle.seqs.proofs.Blocks.{after-append, after-from}
 use Rattle.seqs.proofs.Zeros.{drop-zeros}
 
@@ -39,6 +39,16 @@ module _ (size : ℕ) (positive : 0 < size) (m : List ℕ) where
   none-waits e =
       ap₂ (λ (l : List ℕ) (i : ℕ). l ++ replicate (size - i) 0) (drop-of-length-le m {i = size * (length m / size)} (omega (arith, split))) e
       ∙ ap (λ (i : ℕ). replicate i 0) (sub-zero size)
+
+  module _ (b : List ℕ) where
+    -- b completes the blocks of what waits and b together
+    whole-behind : wholeBlocks size (m ++ b) ≡ wholeBlocks size m + (length m % size + length b) / size
+    whole-behind =
+        let l : length (m ++ b) ≡ size * (length m / size) + (length m % size + length b) = simp length-append (omega (arith, split)) in
+        ap (λ (i : ℕ). i / size) l ∙ mul-add-div positive (length m / size) (length m % size + length b)
+
+    pub completed-blocks : completed size m b ≡ (length m % size + length b) / size
+    completed-blocks = omega (arith, whole-behind)
 
 module _ {S : Type 0} (size : ℕ) (positive : 0 < size) (step : S → List ℕ → S) (initial : S) where
   -- a hash is one value for one message
@@ -85,6 +95,17 @@ module _ {S : Type 0} (size : ℕ) (positive : 0 < size) (step : S → List ℕ 
               (sym w);
           counted = s ∙ ap (λ (i : ℕ). i + length b) (h .counted) ∙ sym (length-append m b);
         }
+
+  -- a block that is completed is a step more
+  pub completed-steps : CompletedAreSteps size step initial
+  completed-steps m b =
+      let k = wholeBlocks size m in
+      let j = completed size m b in
+      let d : size * k ≤ length m = omega (arith, split size positive m) in
+      let e : wholeBlocks size (m ++ b) ≡ k + j = omega (arith, whole-behind size positive m b) in
+      ap (λ (i : ℕ). after size step initial i (m ++ b)) e
+      ∙ after-from size step initial k j (m ++ b)
+      ∙ ap (λ (x : S). after size step x j (drop (size * k) (m ++ b))) (after-append size step initial k m b d)
 
   -- the tail is filled up and is the first block; the others lie in the new bytes
   pub first-block : (s first next : S) (t b : List ℕ) (at j : ℕ) → length t ≡ size → at < size → size ≤ at + length b

@@ -7,6 +7,14 @@ use Prim.Native.Nat.{ℕ, _+_, _-_, _*_, _/_, _%_}
 use lib.ListN.{length, take, drop, replicate}
 use Rattle.seqs.specs.Blocks.{after}
 
+-- how many blocks of m are whole: so many are worked
+abbrev pub wholeBlocks : ℕ → List ℕ → ℕ
+wholeBlocks size m = length m / size
+
+-- how many are completed by b, behind m
+abbrev pub completed : ℕ → List ℕ → List ℕ → ℕ
+completed size m b = wholeBlocks size (m ++ b) - wholeBlocks size m
+
 -- what is left of m behind its whole blocks
 abbrev pub leftOf : ℕ → List ℕ → List ℕ
 leftOf size m = drop (size * (length m / size)) m
@@ -22,6 +30,14 @@ sealed size block at = take at block ++ (128 ∷ replicate (size - (at + 1)) 0)
 module _ {S : Type 0} (size : ℕ) (step : S → List ℕ → S) (initial : S) where
   -- m is taken: the hash value, the tail and the count, each fixed by m
   pub record Holds (value : S) (tail : List ℕ) (count : ℕ) (m : List ℕ) : Type 0 where
-    pub worked : value ≡ after size step initial (length m / size) m
+    pub worked : value ≡ after size step initial (wholeBlocks size m) m
     pub waits : tail ≡ waiting size m
     pub counted : count ≡ length m
+
+  -- The blocks that b completes are steps of the hash definition: the value behind m and b is the one behind m and so many steps more, over
+  -- the blocks that begin where those of m end. The proof is proofs/Taking.antt.
+  abbrev pub CompletedAreSteps : Type 0
+  CompletedAreSteps =
+      (m b : List ℕ)
+      → after size step initial (wholeBlocks size (m ++ b)) (m ++ b)
+      ≡ after size step (after size step initial (wholeBlocks size m) m) (completed size m b) (drop (size * wholeBlocks size m) (m ++ b))

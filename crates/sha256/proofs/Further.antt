@@ -16,8 +16,10 @@ use Rattle.sha256.specs.Constants.{initial}
 use Rattle.sha256.specs.Compress.{step, output}
 use Rattle.sha256.specs.Sha256.{sha256}
 use Rattle.sha256.specs.Running.{Running, most}
+use Rattle.sha256.specs.Promise.{Takes}
 use Rattle.sha256.specs.declared.running.Hash.{Hash}
 use Rattle.sha256.proofs.Alone.{stateOf}
+use Rattle.sha256.proofs.Counting.{counts-completed}
 
 pub further : Hash → List ℕ → Hash
 further hash b =
@@ -43,6 +45,14 @@ further-runs hash b n r l =
           refl;
       bounded = simp length-append (omega arith);
     }
+
+-- and the blocks that it works are those that the bytes complete
+pub furtherWorked : Hash → List ℕ → ℕ
+furtherWorked hash b = (hash .length % 64 + length b) / 64
+
+pub further-takes : (hash : Hash) (b : List ℕ) → Takes hash b (further hash b) (furtherWorked hash b)
+unfolding furtherWorked
+further-takes hash b = record { runs = further-runs hash b; counts = counts-completed b refl }
 
 pub one-digest : (hash : Hash) (m n : List ℕ) → Running hash m → Running hash n → sha256 m ≡ sha256 n
 unfolding sha256

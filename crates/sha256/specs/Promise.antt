@@ -6,6 +6,7 @@ use Prim.Native.Nat.{ℕ, _+_, _≤_, _<_}
 use lib.Dec.{ltb}
 use lib.ListN.{length, replicate}
 use Rattle.seqs.specs.Pick.{pick}
+use Rattle.seqs.specs.Taken.{completed}
 use Rattle.refusal.specs.First.{firstOf}
 use Rattle.refusal.specs.Table.{refusalOf}
 use Rattle.sha256.specs.Running.{Running, taken, most}
@@ -23,6 +24,12 @@ pub record Absorbs (hash : Hash) (bytes : List ℕ) (r : Absorbed) : Type 0 wher
   pub refusal : r .refusal ≡ refusalOf (absorbNumber (taken hash) (length bytes))
   pub refused : most < taken hash + length bytes → r .hash ≡ hash
   pub runs : (m : List ℕ) → Running hash m → length m + length bytes ≤ most → Running (r .hash) (m ++ bytes)
+
+-- taking bytes that there is room for: they are added at the end, and the blocks that were worked are those that the definition completes
+-- with them
+pub record Takes (hash : Hash) (bytes : List ℕ) (r : Hash) (worked : ℕ) : Type 0 where
+  pub runs : (m : List ℕ) → Running hash m → length m + length bytes ≤ most → Running r (m ++ bytes)
+  pub counts : (m : List ℕ) → Running hash m → worked ≡ completed 64 m bytes
 
 -- the one-shot call
 unfoldable pub digestedOf : List ℕ → Digested

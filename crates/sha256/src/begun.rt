@@ -28,9 +28,10 @@ impl State {
             tail: [0; 64],
             length: 64,
         };
-        h = h.more(a);
-        h = h.more(b);
-        h = h.more(c);
+        let mut worked = 0;
+        h = h.more(a, &mut worked);
+        h = h.more(b, &mut worked);
+        h = h.more(c, &mut worked);
         h.digest()
     }
 

@@ -250,15 +250,16 @@ impl State {
         }
     }
 
-    // Every whole block from index from on.
-    pub(crate) fn blocks(self, b: &[u8], from: usize) -> State
-        requires { ⌜ from ≤ length (now b) ⌝ }
-        ensures { λ r. ⌜ valueOf r ≡ hashed (valueOf self) ((length (now (b .entry)) - from) / 64) (drop from (now (b .entry))) ⌝ }
+    // Every whole block from index from on, each counted where it is worked.
+    pub(crate) fn blocks(self, b: &[u8], from: usize, worked: &mut usize) -> State
+        requires { ⌜ (from ≤ length (now b)) × (now worked ≤ 1) ⌝ }
+        ensures { λ r. ⌜ (valueOf r ≡ hashed (valueOf self) ((length (now (b .entry)) - from) / 64) (drop from (now (b .entry)))) × (now (worked .exit) ≡ now (worked .entry) + (length (now (b .entry)) - from) / 64) ⌝ }
     {
         let mut v = self;
         let mut at = from;
         while 64 <= b.len() - at {
             v = v.compress(b, at);
+            *worked += 1;
             at += 64;
         }
         v

@@ -1,7 +1,7 @@
 // A hash that takes its message in pieces. Every value of the struct is harmless; what one stands for is `Running` of specs/.
 ghost use mathlib.Core.Path.{_≡_};
 ghost use mathlib.Core.List.{List, [], _++_};
-ghost use Prim.Native.Nat.{ℕ, _+_, _≤_, _<_};
+ghost use Prim.Native.Nat.{ℕ, _+_, _%_, _≤_, _<_};
 ghost use lib.Dec.{ltb};
 ghost use lib.ListN.{length, take, drop};
 ghost use lib.Seq.{paste};
@@ -9,7 +9,7 @@ ghost use Rattle.seqs.specs.Taken.{sealed};
 ghost use Rattle.seqs.specs.Words.{big, inBytes};
 ghost use Rattle.sha256.specs.Running.{Running, taken, most};
 ghost use Rattle.sha256.specs.Sha256.{sha256};
-ghost use Rattle.sha256.specs.Promise.{Absorbs, digestedOf};
+ghost use Rattle.sha256.specs.Promise.{Absorbs, Takes, digestedOf};
 use crate::compress::State;
 use refusal::Refusal;
 
@@ -90,29 +90,42 @@ impl Hash {
         }
     }
 
-    // More bytes, for a caller that knows that there is room: the blocks are compressed where they lie, and only what is left over is
-    // copied. The sum wraps where there is none, so that every struct value is harmless.
-    pub fn more(self, bytes: &[u8]) -> Hash
-        ensures { λ r. ⌜ ((m : List ℕ) → Running self m → length m + length (now (bytes .entry)) ≤ most → Running r (m ++ now (bytes .entry))) ⌝ }
+    // How many bytes wait for their block to be full.
+    pub fn waiting(self) -> usize
+        ensures { λ r. ⌜ r ≡ taken self % 64 ⌝ }
+    {
+        (self.length % 64) as usize
+    }
+
+    // More bytes, for a caller that knows that there is room, and how many blocks were worked: each is counted where it is compressed. The
+    // blocks are compressed where they lie, and only what is left over is copied. The sum wraps where there is no room, so that every
+    // struct value is harmless.
+    pub fn more(self, bytes: &[u8], worked: &mut usize) -> Hash
+        ensures { λ r. ⌜ Takes self (now (bytes .entry)) r (now (worked .exit)) ⌝ }
     {
         let mut next = self;
         let n = bytes.len();
         let at = (self.length % 64) as usize;
         next.length = std::num::wrapping_add_u64(self.length, n as u64);
         if n < 64 - at {
+            *worked = 0;
             fill(&mut next.tail, at, bytes, 0, n);
             return next;
         }
         let left = (n - (64 - at)) % 64;
         let state = self.state;
         if at == 0 {
-            next.state = state.blocks(bytes, 0);
+            let mut count = 0;
+            next.state = state.blocks(bytes, 0, &mut count);
+            *worked = count;
             fill(&mut next.tail, 0, bytes, n - left, left);
             return next;
         }
         fill(&mut next.tail, at, bytes, 0, 64 - at);
         let first = state.compress(&next.tail, 0);
-        next.state = first.blocks(bytes, 64 - at);
+        let mut count = 1;
+        next.state = first.blocks(bytes, 64 - at, &mut count);
+        *worked = count;
         next.tail = [0; 64];
         fill(&mut next.tail, 0, bytes, n - left, left);
         next
@@ -141,7 +154,8 @@ impl Hash {
             r.refusal = refusal::refuse(10);
             return r;
         }
-        r.hash = self.more(bytes);
+        let mut worked = 0;
+        r.hash = self.more(bytes, &mut worked);
         r
     }
 
@@ -178,7 +192,8 @@ pub fn sha256(message: &[u8]) -> Digested
         };
     }
     let mut h = Hash::fresh();
-    h = h.more(message);
+    let mut worked = 0;
+    h = h.more(message, &mut worked);
     let digest = h.digest();
     let refusal = refusal::refuse(0);
     Digested { refusal, digest }

@@ -35,10 +35,10 @@ refuse-requires-2 c κs = search needs
 
 returns-2 : tie.Need-returns-2
 returns-2 c =
-    let m = c .before .before .before .before .before .before .args .message .now in
+    let m = c .before .before .before .before .before .before .before .args .message .now in
     let w : length m ≤ most = omega arith in
     digested m (c .refuse2 .result) (c .refuse2 .ensures ∙ ap refusalOf (sym (number-within 0 (length m) (omega arith)))) (c .before .digest .result) w
-    (c .before .digest .ensures m (c .before .before .more .ensures [] (c .before .before .before .fresh .ensures) (omega arith)))
+    (c .before .digest .ensures m (c .before .before .more .ensures .runs [] (c .before .before .before .before .fresh .ensures) (omega arith)))
 
 pub sha256-spec : {M : Type 1} → statement M
 sha256-spec =

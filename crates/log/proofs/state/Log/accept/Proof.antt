@@ -14,11 +14,11 @@ returns c = refused-accepts _ _ _ (c .before .before .before .turn .result) (c .
 returns-2 : tie.Need-returns-2
 returns-2 c = request-accepts _ _ _ (c .before .before .before .before .before .turn .result) (c .before .before .before .before .before .turn .ensures) (c .before .before .if1 .left) (c .if2 .taken)
 
-after-requires : tie.Need-after-requires
-after-requires c κs = search needs
+entered-requires : tie.Need-entered-requires
+entered-requires c κs = search needs
 
 returns-3 : tie.Need-returns-3
-returns-3 c = done-accepts _ _ _ (c .before .before .before .before .before .before .turn .result) (c .before .before .before .before .before .before .turn .ensures) (c .before .before .before .if1 .left) _ (c .before .if2 .left) (c .after .ensures)
+returns-3 c = done-accepts _ _ _ (c .before .before .before .before .before .before .before .turn .result) (c .before .before .before .before .before .before .before .turn .ensures) (c .before .before .before .before .if1 .left) _ _ (c .before .before .if2 .left) (c .entered .ensures)
 
 pub accept-spec : {M : Type 1} → statement M
-accept-spec = tie.close (tie.spec turn-requires returns returns-2 after-requires returns-3)
+accept-spec = tie.close (tie.spec turn-requires returns returns-2 entered-requires returns-3)

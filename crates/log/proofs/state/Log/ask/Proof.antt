@@ -23,17 +23,17 @@ refuse-requires-2 c κs = search needs
 returns-3 : tie.Need-returns-3
 returns-3 c = kind-asks _ _ _ (c .before .before .before .before .before .before .before .if1 .left) (c .before .before .before .before .before .before .judge .result) (c .before .before .before .before .before .before .judge .ensures) (c .before .before .before .if2 .left) (c .before .if3 .taken) _ (c .refuse2 .ensures)
 
-finished-due-requires : tie.Need-finished-due-requires
-finished-due-requires c κs = search needs
+due-requires : tie.Need-due-requires
+due-requires c κs = search needs
 
 refuse-requires-3 : tie.Need-refuse-requires-3
 refuse-requires-3 c κs = search needs
 
 returns-4 : tie.Need-returns-4
-returns-4 c = due-asks _ _ _ (c .before .before .before .before .before .before .before .before .before .if1 .left) (c .before .before .before .before .before .before .before .before .judge .result) (c .before .before .before .before .before .before .before .before .judge .ensures) (c .before .before .before .before .before .if2 .left) (c .before .before .before .if3 .left) _ (c .before .before .finished-due .ensures) (c .before .if4 .taken) _ (c .refuse3 .ensures)
+returns-4 c = due-asks _ _ _ (c .before .before .before .before .before .before .before .before .before .if1 .left) (c .before .before .before .before .before .before .before .before .judge .result) (c .before .before .before .before .before .before .before .before .judge .ensures) (c .before .before .before .before .before .if2 .left) (c .before .before .before .if3 .left) _ (c .before .before .due .ensures) (c .before .if4 .taken) _ (c .refuse3 .ensures)
 
 returns-5 : tie.Need-returns-5
-returns-5 c = done-asks _ _ _ (c .before .before .before .before .before .before .before .before .if1 .left) (c .before .before .before .before .before .before .before .judge .result) (c .before .before .before .before .before .before .before .judge .ensures) (c .before .before .before .before .if2 .left) (c .before .before .if3 .left) _ (c .before .finished-due .ensures) (c .if4 .left)
+returns-5 c = done-asks _ _ _ (c .before .before .before .before .before .before .before .before .if1 .left) (c .before .before .before .before .before .before .before .judge .result) (c .before .before .before .before .before .before .before .judge .ensures) (c .before .before .before .before .if2 .left) (c .before .before .if3 .left) _ (c .before .due .ensures) (c .if4 .left)
 
 pub ask-spec : {M : Type 1} → statement M
 ask-spec =
@@ -45,7 +45,7 @@ ask-spec =
     returns-2
     refuse-requires-2
     returns-3
-    finished-due-requires
+    due-requires
     refuse-requires-3
     returns-4
     returns-5)

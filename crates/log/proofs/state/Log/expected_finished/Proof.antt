@@ -11,14 +11,14 @@ unexpected-requires c κs = search needs
 returns : tie.Need-returns
 returns c = secret-expects _ _ (c .unexpected .result) (c .before .if1 .taken) (c .unexpected .ensures)
 
-finished-due-requires : tie.Need-finished-due-requires
-finished-due-requires c κs = search needs
+due-requires : tie.Need-due-requires
+due-requires c κs = search needs
 
 unexpected-requires-2 : tie.Need-unexpected-requires-2
 unexpected-requires-2 c κs = search needs
 
 returns-2 : tie.Need-returns-2
-returns-2 c = due-expects _ _ (c .before .before .before .if1 .left) _ (c .before .before .finished-due .ensures) (c .unexpected2 .result) (c .before .if2 .taken) (c .unexpected2 .ensures)
+returns-2 c = due-expects _ _ (c .before .before .before .if1 .left) _ (c .before .before .due .ensures) (c .unexpected2 .result) (c .before .if2 .taken) (c .unexpected2 .ensures)
 
 refuse-requires : tie.Need-refuse-requires
 refuse-requires c κs = search needs
@@ -27,7 +27,7 @@ expected-value-requires : tie.Need-expected-value-requires
 expected-value-requires c κs = search needs
 
 returns-3 : tie.Need-returns-3
-returns-3 c = done-expects _ _ (c .before .before .before .before .if1 .left) _ (c .before .before .before .finished-due .ensures) _ _ (c .before .before .if2 .left) (c .before .refuse .ensures) (c .expected-value .ensures)
+returns-3 c = done-expects _ _ (c .before .before .before .before .if1 .left) _ (c .before .before .before .due .ensures) _ _ (c .before .before .if2 .left) (c .before .refuse .ensures) (c .expected-value .ensures)
 
 pub expected-finished-spec : {M : Type 1} → statement M
 expected-finished-spec =
@@ -35,7 +35,7 @@ expected-finished-spec =
     (tie.spec
     unexpected-requires
     returns
-    finished-due-requires
+    due-requires
     unexpected-requires-2
     returns-2
     refuse-requires

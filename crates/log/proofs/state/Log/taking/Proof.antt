@@ -8,17 +8,18 @@ use Rattle.log.proofs.state.Log.taking.Tie as tie
 from-server-requires : tie.Need-from-server-requires
 from-server-requires c κs = search needs
 
-more-requires : tie.Need-more-requires
-more-requires c κs = search needs
-
 next-requires : tie.Need-next-requires
 next-requires c κs = search needs
 
+entered-requires : tie.Need-entered-requires
+entered-requires c κs = search needs
+
 returns : tie.Need-returns
-returns c = takes-server _ _ _ (c .before .before .more .result) (c .before .before .more .ensures) _ (c .before .next .ensures) _ (c .before .before .before .from-server .ensures) (c .if1 .taken)
+returns c = takes-server _ _ _ _ (c .before .entered .result) _ (c .before .entered .ensures) (c .before .before .before .next .ensures) _ (c .before .before .before .before .from-server .ensures) (c .if1 .taken)
 
 returns-2 : tie.Need-returns-2
-returns-2 c = takes-client _ _ _ (c .before .before .more .result) (c .before .before .more .ensures) _ (c .before .next .ensures) _ (c .before .before .before .from-server .ensures) (c .if1 .left)
+returns-2 c = takes-client _ _ _ _ (c .before .entered .result) _ (c .before .entered .ensures) (c .before .before .before .next .ensures) _ (c .before .before .before .before .from-server .ensures) (c .if1 .left)
 
 pub taking-spec : {M : Type 1} → statement M
-taking-spec = tie.close (tie.spec from-server-requires more-requires next-requires returns returns-2)
+taking-spec =
+    tie.close (tie.spec from-server-requires next-requires entered-requires returns returns-2)

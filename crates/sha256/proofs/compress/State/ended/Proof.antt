@@ -24,14 +24,14 @@ digest-requires c κs = search needs
 
 returns : tie.Need-returns
 returns c k h w =
-    let a = c .before .before .before .before .before .before .before .args in
+    let a = c .before .before .before .before .before .before .before .before .before .before .args in
     let x = a .a .now in
     let y = a .b .now in
     let z = a .c .now in
     let r0 = begun-runs h in
-    let r1 = c .before .before .before .more .ensures k r0 (omega (arith, h .whole)) in
-    let r2 = c .before .before .more2 .ensures (k ++ x) r1 (simp length-append (omega (arith, h .whole))) in
-    let r3 = c .before .more3 .ensures ((k ++ x) ++ y) r2 (simp length-append (omega (arith, h .whole))) in
+    let r1 = c .before .before .before .before .before .more .ensures .runs k r0 (omega (arith, h .whole)) in
+    let r2 = c .before .before .before .more2 .ensures .runs (k ++ x) r1 (simp length-append (omega (arith, h .whole))) in
+    let r3 = c .before .more3 .ensures .runs ((k ++ x) ++ y) r2 (simp length-append (omega (arith, h .whole))) in
     c .digest .ensures _ r3
     ∙ ap sha256 (append-assoc (k ++ x) y z ∙ append-assoc k x (y ++ z))
 

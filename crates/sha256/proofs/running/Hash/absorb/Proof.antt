@@ -38,12 +38,12 @@ more-requires c κs = search needs
 returns-2 : tie.Need-returns-2
 unfolding taken
 returns-2 c =
-    let a = c .before .before .before .before .before .args in
-    let w : a .self .length + length (a .bytes .now) ≤ most = ltb-false most _ (sym (c .before .before .exceeds .ensures) ∙ c .before .if1 .left) in
+    let a = c .before .before .before .before .before .before .args in
+    let w : a .self .length + length (a .bytes .now) ≤ most = ltb-false most _ (sym (c .before .before .before .exceeds .ensures) ∙ c .before .before .if1 .left) in
     record {
-      refusal = c .before .before .before .refuse .ensures ∙ ap refusalOf (sym (number-within (a .self .length) (length (a .bytes .now)) w));
+      refusal = c .before .before .before .before .refuse .ensures ∙ ap refusalOf (sym (number-within (a .self .length) (length (a .bytes .now)) w));
       refused = λ g. absurd (omega arith);
-      runs = c .more .ensures;
+      runs = c .more .ensures .runs;
     }
 
 pub absorb-spec : {M : Type 1} → statement M

@@ -1,0 +1,146 @@
+-- A message that the single call accepts enters by every list of allowances that is long enough; and the cases of specs/Parts.antt.
+-- Assumes nothing.
+use mathlib.Core.Path.{_≡_, refl, sym, _∙_, ap, ap₂}
+use mathlib.Core.Bool.{Bool, true, false, not}
+use mathlib.Core.Logic.{_⊎_, inl, inr}
+use mathlib.Core.List.{List, [], _∷_, _++_, map, append-nil}
+use Prim.Native.Nat.{ℕ, zero, suc, _+_, _-_, _*_, _≤_, _<_}
+use native.Mathlib.Omega.{arith}
+use lib.Dec.{eqb, leb, ltb}
+use lib.ListN.{length, take, drop, replicate, length-append, length-drop, length-replicate, take-append-drop}
+use lib.Seq.{take-all, length-take-le}
+use borrow.Author.Tests.{eq-eqb, ne-eqb, eqb-true, eqb-false, le-ltb}
+use Rattle.seqs.specs.Pick.{pick}
+use Rattle.seqs.specs.Cases.{by-test}
+use Rattle.refusal.specs.First.{firstOf}
+use Rattle.refusal.specs.Listed.{numbered-at}
+use Rattle.message.specs.Numbers.{byteAt, pairAt, tripleAt}
+use Rattle.message.specs.Frame.{kindOf, bodyOf, overlong, cutOff, misstated}
+use Rattle.transcript.specs.Allowance.{room, letIn}
+use Rattle.log.specs.Order.{turns, isDue, look}
+use Rattle.log.specs.History.{History, tells, placeOf, hashed}
+use Rattle.log.specs.History.History.{fresh, accepted}
+use Rattle.log.specs.History.Beside.{told}
+use Rattle.log.specs.Standing.{Standing, Part, historyOf, leftOf}
+use Rattle.log.specs.Standing.Standing.{whole, parted}
+use Rattle.log.specs.Calls.{wrongBody, misshapen, brokenAt, isFinished, outOfTurn, acceptNumber, afterAccept}
+use Rattle.log.specs.Feed.{badAllowance, begun, feedNumber, gotBy, blocksBy, takes, feedTaken, feedBlocks, afterFeed}
+use Rattle.log.specs.Stands.{Stands}
+use Rattle.log.specs.Parts.{Feeding, Taken, Parts, bytesTaken, Allowances, EntersBy, EveryAllowance, fedBy, clientHello, serverHello, certificate, CertificateBy, Order4Cases}
+use Rattle.log.specs.Parts.Parts.{last, part}
+use Rattle.log.specs.Runs.{Call, after, standingFrom}
+use Rattle.log.specs.Runs.Call.{accept}
+use Rattle.log.specs.declared.state.Log.{Log}
+use Rattle.log.proofs.Messages.{fine}
+use Rattle.log.proofs.Heads.{accepted-is}
+use Rattle.log.proofs.Runs.{law}
+use Rattle.log.proofs.Total.{FeedAnswer, feed-answered, total}
+use Rattle.log.proofs.Parts.{taken, leaves-part, progress}
+
+good : (k : ℕ) → 1 ≤ k → k ≤ 256 → badAllowance k ≡ false
+unfolding badAllowance
+good k g l = rw (ne-eqb k 0 (λ e. omega arith), le-ltb 256 k l)
+
+-- no allowance is refused
+abbrev Ready : Standing → List ℕ → Bool → Type 0
+Ready s rest resumes = (k : ℕ) → badAllowance k ≡ false → feedNumber s rest k resumes ≡ 0
+
+ready-part : (h : History) (p : Part) (rest : List ℕ) (resumes : Bool) → length rest ≡ leftOf p → Ready (parted h p) rest resumes
+unfolding feedNumber firstOf
+ready-part h p rest resumes e k b = rw (b, eq-eqb (length rest) (leftOf p) e)
+
+go : (ks : List ℕ) (log : Log) (s : Standing) (rest : List ℕ) (resumes : Bool) → Stands log s → Ready s rest resumes → 1 ≤ length rest
+    → length (begun s rest resumes .got) + length rest ≡ begun s rest resumes .total
+    → Allowances ks → length rest ≤ 64 * length ks → EntersBy log rest resumes ks
+unfolding Allowances bytesTaken
+go [] log s rest resumes st ready some due a l = absurd (omega arith)
+go (k ∷ ks) log s rest resumes st ready some due a l =
+    let b = good k (a .0) (a .1) in
+    let f : Feeding = record { rest = rest; allowance = k; resumes = resumes; answer = feed-answered log s st rest k resumes .answer } in
+    let t : Taken log f =
+    record {
+      feeds = feed-answered log s st rest k resumes .feeds;
+      done =
+          numbered-at (feedNumber s rest k resumes) (brokenAt rest) (f .answer .refusal) (feed-answered log s st rest k resumes .feeds .refusal s st)
+          ∙ ready k b;
+    } in
+    let n = f .answer .taken in
+    by-test (eqb n (length rest))
+    (λ e.
+    let q : n ≡ length rest = eqb-true n (length rest) e in
+    record {
+      parts = f ∷ [];
+      left = f .answer .log;
+      run = last t q;
+      taken = append-nil (take n rest) ∙ take-all n rest (omega arith);
+      unused = ks;
+      allowances = refl;
+    })
+    (λ e.
+    let q = eqb-false n (length rest) e in
+    let w : n ≤ length rest = t .feeds .within in
+    let x : length (gotBy s rest n resumes) ≡ length (begun s rest resumes .got) + n =
+    length-append (begun s rest resumes .got) (take n rest) ∙ ap (λ (i : ℕ). length (begun s rest resumes .got) + i) (length-take-le n rest w) in
+    let p : Part = record { got = gotBy s rest n resumes; total = begun s rest resumes .total; resumes = begun s rest resumes .resumes } in
+    let y : length (drop n rest) ≡ length rest - n = length-drop n rest in
+    let u = strict n (length rest) w q in
+    let r =
+    go ks (f .answer .log) (parted (historyOf s) p) (drop n rest) resumes (leaves-part log s f st t q)
+    (ready-part (historyOf s) p (drop n rest) resumes (y ∙ (omega (arith, x, due, w))))
+    (omega (arith, y, u)) (omega (arith, x, y, due, w)) (a .2) (omega (arith, y, l, enough n (length rest) (progress log s f st t) q)) in
+    record {
+      parts = f ∷ r .parts;
+      left = r .left;
+      run = part {log′ = r .left} {fs = r .parts} t q (r .run);
+      taken = ap (λ (i : List ℕ). take n rest ++ i) {x = bytesTaken (r .parts)} (r .taken) ∙ take-append-drop n rest;
+      unused = r .unused;
+      allowances = ap (λ (i : List ℕ). k ∷ i) {x = map (λ (g : Feeding). g .allowance) (r .parts) ++ r .unused} (r .allowances);
+    })
+  where
+    strict : (n l : ℕ) → n ≤ l → (n ≡ l → ⊥) → n < l
+    strict n l h z = omega (arith, h, z)
+
+    enough : (n l : ℕ) → (n ≡ l) ⊎ (64 ≤ n) → (n ≡ l → ⊥) → 64 ≤ n
+    enough n l (inl e) z = absurd (z e)
+    enough n l (inr e) z = e
+
+pub every-allowance : EveryAllowance
+unfolding feedNumber
+every-allowance log h m resumes ks st e a l =
+    go ks log (whole h) m resumes st (λ k b. rw b e) (omega (arith, fine m (accepted-is h m resumes e .shape) .shortest)) (omega arith) a l
+
+-- ---- the cases
+
+allowances-of : (n k : ℕ) → 1 ≤ k → k ≤ 256 → Allowances (replicate n k)
+unfolding Allowances
+allowances-of zero k g l = tt
+allowances-of (suc n) k g l = (g, l, allowances-of n k g l)
+
+greeting : History
+greeting = accepted (accepted fresh clientHello (told false)) serverHello (told false)
+
+-- the certificate is in turn behind both hellos
+certificate-due : acceptNumber (whole greeting) certificate false ≡ 0
+unfolding greeting acceptNumber firstOf overlong misstated cutOff misshapen wrongBody isFinished outOfTurn placeOf tells turns isDue look kindOf bodyOf byteAt pairAt tripleAt
+certificate-due = refl
+
+met : (log : Log) → Stands log (whole fresh) → CertificateBy log
+unfolding Allowances greeting standingFrom after afterAccept acceptNumber firstOf overlong misstated cutOff misshapen wrongBody isFinished outOfTurn placeOf tells turns isDue look kindOf bodyOf byteAt pairAt tripleAt
+met log st =
+    let cs : List Call = accept clientHello false ∷ accept serverHello false ∷ [] in
+    let r = total log cs st in
+    let g : Stands (r .left) (whole greeting) = law log (r .left) cs st (r .run) .stands in
+    let n : length certificate ≤ 64 * 257 = omega (arith, length-replicate {A = ℕ} 16384 7) in
+    record {
+      greeted = r .left;
+      hellos = r .run;
+      ones = every-allowance (r .left) greeting certificate false (replicate 257 1) g certificate-due (allowances-of 257 1 (omega arith) (omega arith)) n;
+      most = every-allowance (r .left) greeting certificate false (replicate 257 256) g certificate-due (allowances-of 257 256 (omega arith) (omega arith)) n;
+      mixed =
+          every-allowance (r .left) greeting certificate false (1 ∷ 256 ∷ replicate 255 16) g certificate-due
+          (omega arith, omega arith, (omega arith, omega arith, allowances-of 255 16 (omega arith) (omega arith))) n;
+    }
+
+pub order4-cases : Order4Cases
+unfolding fedBy feedTaken feedBlocks blocksBy takes afterFeed feedNumber badAllowance letIn room hashed acceptNumber firstOf overlong misstated cutOff misshapen wrongBody isFinished outOfTurn placeOf tells turns isDue look kindOf bodyOf byteAt pairAt tripleAt
+order4-cases = record { hello = refl; rest = refl; request = refl; met = met }

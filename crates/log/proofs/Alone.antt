@@ -1,0 +1,29 @@
+-- A log is one value for what it stands for: its hashes are one value for the bytes that they have taken, and every other field is fixed.
+-- Assumes nothing.
+use mathlib.Core.Path.{_≡_, sym, _∙_}
+use mathlib.Core.List.{List}
+use Prim.Native.Nat.{ℕ}
+use Rattle.transcript.specs.declared.Transcript.{Transcript}
+use Rattle.transcript.proofs.Alone as transcript
+use Rattle.log.specs.Standing.{Standing, entered}
+use Rattle.log.specs.Standing.Standing.{whole, parted}
+use Rattle.log.specs.Stands.{Stands, PartOf, OneLog}
+use Rattle.log.specs.declared.state.Log.{Log}
+
+-- what a log keeps of a message between parts
+same-part : (log log′ : Log) (s : Standing) → PartOf log s → PartOf log′ s → (log .kind ≡ log′ .kind) × (log .next ≡ log′ .next) × (log .left ≡ log′ .left)
+same-part log log′ (whole h) p q = (p .kind ∙ sym (q .kind), p .next ∙ sym (q .next), p .left ∙ sym (q .left))
+same-part log log′ (parted h part) p q = (p .kind ∙ sym (q .kind), p .next ∙ sym (q .next), p .left ∙ sym (q .left))
+
+same : {hash hash′ : Transcript} {place place′ kind kind′ next next′ left left′ : ℕ} {session session′ client client′ server server′ : List ℕ}
+    → hash ≡ hash′ → place ≡ place′ → session ≡ session′ → client ≡ client′ → server ≡ server′ → kind ≡ kind′ → next ≡ next′ → left ≡ left′
+    → _≡_ {A = Log}
+    (record { hash = hash; place = place; session = session; client = client; server = server; kind = kind; next = next; left = left })
+    (record { hash = hash′; place = place′; session = session′; client = client′; server = server′; kind = kind′; next = next′; left = left′ })
+same a b c d e f g h = cc
+
+pub alone : OneLog
+alone log log′ s p q =
+    let (kind, next, left) = same-part log log′ s (p .part) (q .part) in
+    same (transcript.alone (log .hash) (log′ .hash) (entered s) (p .hash) (q .hash)) (p .place .number ∙ sym (q .place .number))
+    (p .session ∙ sym (q .session)) (p .client ∙ sym (q .client)) (p .server ∙ sym (q .server)) kind next left

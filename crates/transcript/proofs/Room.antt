@@ -1,0 +1,10 @@
+-- The room of an allowance is tight.
+-- Assumes nothing.
+use native.Mathlib.Omega.{arith}
+use Rattle.seqs.proofs.Taking.{completed-blocks}
+use Rattle.transcript.specs.Allowance.{room, Tight}
+
+pub tight : Tight
+unfolding room
+tight k m b =
+    (λ h. omega (arith, completed-blocks 64 (omega arith) m b), λ h. omega (arith, completed-blocks 64 (omega arith) m b))

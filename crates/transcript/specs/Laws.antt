@@ -1,0 +1,62 @@
+-- Laws: what the parts above may use of the carried hashes and of an allowance, and open neither.
+-- Assumes nothing.
+use mathlib.Core.Path.{_≡_, ap}
+use mathlib.Core.List.{List}
+use mathlib.Core.Logic.{_⊎_, inl, inr}
+use Prim.Native.Nat.{ℕ, _+_, _-_, _*_, _%_, _≤_, _<_}
+use native.Mathlib.Omega.{arith}
+use borrow.Author.Tests.{leb-true, leb-false, le-leb, lt-leb}
+use lib.Dec.{leb}
+use lib.ListN.{length}
+use Rattle.seqs.specs.Cases.{by-test}
+use Rattle.sha256.specs.Running.{most}
+use Rattle.sha256.specs.Laws.{running-bounded}
+use Rattle.transcript.specs.Allowance.{room, letIn}
+use Rattle.transcript.specs.Carries.{Carries}
+use Rattle.transcript.specs.declared.Transcript.{Transcript}
+
+-- what is carried is within the bound of each hash
+pub carries-bounded : {t : Transcript} {m : List ℕ} → Carries t m → length m ≤ most
+carries-bounded h = running-bounded (h .sha256)
+
+-- an allowance of a block or more has room for 64 bytes
+room-some : (k : ℕ) (m : List ℕ) → 1 ≤ k → 64 ≤ room k m
+unfolding room
+room-some k m h = omega arith
+
+-- lists of one length leave the same room
+room-length : (k : ℕ) (m n : List ℕ) → length m ≡ length n → room k m ≡ room k n
+unfolding room
+room-length k m n e = ap (λ (i : ℕ). 64 * (k + 1) - 1 - i % 64) e
+
+module _ (k : ℕ) (m : List ℕ) (left : ℕ) where
+  -- all that is left, where there is room for it, and else what there is room for
+  pub letIn-all : left ≤ room k m → letIn k m left ≡ left
+  unfolding letIn
+  letIn-all h = rw (le-leb left (room k m) h)
+
+  pub letIn-part : room k m < left → letIn k m left ≡ room k m
+  unfolding letIn
+  letIn-part h = rw (lt-leb left (room k m) h)
+
+  smaller : {P : Type 0} → (left ≤ room k m → letIn k m left ≡ left → P) → (room k m < left → letIn k m left ≡ room k m → P) → P
+  smaller all part =
+      by-test (leb left (room k m))
+      (λ e. let h = leb-true left (room k m) e in all h (letIn-all h))
+      (λ e. let h = leb-false left (room k m) e in part h (letIn-part h))
+
+  -- no more than is left, and no more than there is room for
+  pub letIn-within : letIn k m left ≤ left
+  letIn-within = smaller (λ h e. omega arith) (λ h e. omega arith)
+
+  pub letIn-room : letIn k m left ≤ room k m
+  letIn-room = smaller (λ h e. omega arith) (λ h e. omega arith)
+
+  -- all that is left, or 64 bytes and more: a message that is fed comes to its end
+  pub letIn-some : 1 ≤ k → (letIn k m left ≡ left) ⊎ (64 ≤ letIn k m left)
+  letIn-some o = smaller (λ h e. inl e) (λ h e. inr (omega (arith, room-some k m o)))
+
+-- lists of one length are let in alike
+pub letIn-length : (k : ℕ) (m n : List ℕ) (left : ℕ) → length m ≡ length n → letIn k m left ≡ letIn k n left
+unfolding letIn
+letIn-length k m n left e = rw (room-length k m n e)

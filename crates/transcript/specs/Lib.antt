@@ -1,0 +1,4 @@
+pub mod Allowance
+pub mod Carries
+pub mod Promise
+pub mod Laws
