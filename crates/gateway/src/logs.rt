@@ -1,5 +1,4 @@
 // The message log (document 01).
-ghost use mathlib.Core.Path.{_≡_};
 ghost use Rattle.seqs.specs.Flag.{yes};
 ghost use Rattle.log.specs.History.History.{fresh};
 ghost use Rattle.log.specs.Standing.Standing.{whole};

@@ -1,21 +1,19 @@
 -- Accepting a message: its number at each way out, and what is promised of the log that is handed back.
 -- Assumes nothing.
 use mathlib.Core.Path.{_≡_, refl, sym, _∙_, ap}
-use mathlib.Core.Bool.{Bool, true, false, not, _&&_, false≢true}
+use mathlib.Core.Bool.{Bool, true, false, not}
 use mathlib.Core.List.{List, [], _∷_, _++_, append-nil}
 use Prim.Native.Nat.{ℕ, _≤_}
 use native.Mathlib.Omega.{arith}
 use lib.Dec.{eqb}
-use lib.ListN.{length}
 use borrow.Author.Tests.{ne-eqb}
 use Rattle.seqs.specs.Pick.{pick}
 use Rattle.refusal.specs.First.{firstOf}
 use Rattle.refusal.proofs.First.{first-front}
 use Rattle.refusal.specs.Table.{refusalOf, refusalAt}
 use Rattle.message.specs.Frame.{kindOf, overlong, misstated}
-use Rattle.transcript.specs.Promise.{Enters}
 use Rattle.log.specs.Order.{Place, turns, look, isDue}
-use Rattle.log.specs.History.{History, tells, placeOf, hashed, isFrom}
+use Rattle.log.specs.History.{History, tells, placeOf, hashed}
 use Rattle.log.specs.History.History.{accepted}
 use Rattle.log.specs.History.Side.{client, server}
 use Rattle.log.specs.History.Beside.{told}
@@ -42,7 +40,7 @@ pub last-stands : (log : Log) (s : Standing) (got bytes : List ℕ) (resumes : B
     → Stands r (whole (accepted (historyOf s) (got ++ bytes) (told resumes)))
 unfolding Compared
 last-stands log s got bytes resumes k p r worked st e t o x =
-    let c = carried log s got bytes (told resumes) k p st e (t .size) (far log s (got ++ bytes) (told resumes) k p st t) (r .hash) worked (x .hash) in
+    let c = carried log s got bytes st e (t .size) (far log s (got ++ bytes) (told resumes) k p st t) (r .hash) worked (x .hash) in
     let n : eqb k 20 ≡ false = ne-eqb k 20 (λ q. o (sym (t .kind) ∙ q)) in
     let y = x .last refl in
     taking-stands log s (got ++ bytes) (told resumes) k p st t r c (y .0) (x .session refl (hashed (historyOf s) ++ (got ++ bytes)) c)

@@ -1,16 +1,15 @@
 -- A message that the single call accepts enters by every list of allowances that is long enough; and the cases of specs/Parts.antt.
 -- Assumes nothing.
-use mathlib.Core.Path.{_≡_, refl, sym, _∙_, ap, ap₂}
-use mathlib.Core.Bool.{Bool, true, false, not}
+use mathlib.Core.Path.{_≡_, refl, _∙_, ap}
+use mathlib.Core.Bool.{Bool, false}
 use mathlib.Core.Logic.{_⊎_, inl, inr}
 use mathlib.Core.List.{List, [], _∷_, _++_, map, append-nil}
 use Prim.Native.Nat.{ℕ, zero, suc, _+_, _-_, _*_, _≤_, _<_}
 use native.Mathlib.Omega.{arith}
-use lib.Dec.{eqb, leb, ltb}
+use lib.Dec.{eqb}
 use lib.ListN.{length, take, drop, replicate, length-append, length-drop, length-replicate, take-append-drop}
 use lib.Seq.{take-all, length-take-le}
 use borrow.Author.Tests.{eq-eqb, ne-eqb, eqb-true, eqb-false, le-ltb}
-use Rattle.seqs.specs.Pick.{pick}
 use Rattle.seqs.specs.Cases.{by-test}
 use Rattle.refusal.specs.First.{firstOf}
 use Rattle.refusal.specs.Listed.{numbered-at}
@@ -26,7 +25,7 @@ use Rattle.log.specs.Standing.Standing.{whole, parted}
 use Rattle.log.specs.Calls.{wrongBody, misshapen, brokenAt, isFinished, outOfTurn, acceptNumber, afterAccept}
 use Rattle.log.specs.Feed.{badAllowance, begun, feedNumber, gotBy, blocksBy, takes, feedTaken, feedBlocks, afterFeed}
 use Rattle.log.specs.Stands.{Stands}
-use Rattle.log.specs.Parts.{Feeding, Taken, Parts, bytesTaken, Allowances, EntersBy, EveryAllowance, fedBy, clientHello, serverHello, certificate, CertificateBy, Order4Cases}
+use Rattle.log.specs.Parts.{Feeding, Taken, bytesTaken, Allowances, EntersBy, EveryAllowance, fedBy, clientHello, serverHello, certificate, CertificateBy, Order4Cases}
 use Rattle.log.specs.Parts.Parts.{last, part}
 use Rattle.log.specs.Runs.{Call, after, standingFrom}
 use Rattle.log.specs.Runs.Call.{accept}
@@ -34,7 +33,7 @@ use Rattle.log.specs.declared.state.Log.{Log}
 use Rattle.log.proofs.Messages.{fine}
 use Rattle.log.proofs.Heads.{accepted-is}
 use Rattle.log.proofs.Runs.{law}
-use Rattle.log.proofs.Total.{FeedAnswer, feed-answered, total}
+use Rattle.log.proofs.Total.{feed-answered, total}
 use Rattle.log.proofs.Parts.{taken, leaves-part, progress}
 
 good : (k : ℕ) → 1 ≤ k → k ≤ 256 → badAllowance k ≡ false

@@ -7,7 +7,7 @@ use Rattle.transcript.specs.declared.Transcript.{Transcript}
 use Rattle.transcript.proofs.Alone as transcript
 use Rattle.log.specs.Standing.{Standing, entered}
 use Rattle.log.specs.Standing.Standing.{whole, parted}
-use Rattle.log.specs.Stands.{Stands, PartOf, OneLog}
+use Rattle.log.specs.Stands.{PartOf, OneLog}
 use Rattle.log.specs.declared.state.Log.{Log}
 
 -- what a log keeps of a message between parts

@@ -1,27 +1,25 @@
 -- A message by parts: the number at each way out, and what is promised of the log that is handed back.
 -- Assumes nothing.
-use mathlib.Core.Path.{_≡_, refl, sym, _∙_, ap, ap₂, subst}
-use mathlib.Core.Bool.{Bool, true, false, not, _||_, false≢true}
+use mathlib.Core.Path.{_≡_, refl, sym, _∙_, ap, subst}
+use mathlib.Core.Bool.{Bool, true, false, not, false≢true}
 use mathlib.Core.Logic.{_⊎_, inl, inr}
-use mathlib.Core.List.{List, [], _∷_, _++_, append-nil, append-assoc}
+use mathlib.Core.List.{List, _++_, append-nil, append-assoc}
 use Prim.Native.Nat.{ℕ, _+_, _-_, _≤_, _<_}
 use native.Mathlib.Omega.{arith}
 use lib.Dec.{eqb, leb, ltb}
-use lib.ListN.{length, take, drop, length-append, length-drop, take-append-drop}
+use lib.ListN.{length, take, drop, length-append, take-append-drop}
 use lib.Seq.{take-all, take-append-le, length-take-le}
 use borrow.Author.Tests.{eq-eqb, ne-eqb, eqb-true, eqb-false, ltb-false, le-ltb, lt-ltb, leb-true, leb-false}
-use Rattle.seqs.specs.Pick.{pick}
 use Rattle.seqs.specs.Cases.{by-test, or-left, or-right}
-use Rattle.seqs.specs.Taken.{completed}
 use Rattle.refusal.specs.First.{firstOf}
 use Rattle.refusal.specs.Table.{refusalOf, refusalAt}
-use Rattle.refusal.specs.Listed.{anywhere, numbered, numbered-at, row-at, listed-at}
+use Rattle.refusal.specs.Listed.{anywhere, numbered, row-at, listed-at}
 use Rattle.refusal.specs.declared.Refusal.{Refusal}
 use Rattle.message.specs.Frame.{kindOf}
 use Rattle.transcript.specs.Allowance.{letIn}
 use Rattle.transcript.specs.Carries.{Carries}
 use Rattle.transcript.specs.Laws.{letIn-within, letIn-some}
-use Rattle.log.specs.History.{History, tells, placeOf, hashed}
+use Rattle.log.specs.History.{History, tells, hashed}
 use Rattle.log.specs.History.History.{accepted}
 use Rattle.log.specs.History.Beside.{told}
 use Rattle.log.specs.Standing.{Standing, Part, historyOf, between, entered, leftOf}
@@ -33,9 +31,8 @@ use Rattle.log.specs.Promise.{Feeds}
 use Rattle.log.specs.Steps.{InTurn, TurnOf, Entering, PartTurn, Entered}
 use Rattle.log.specs.declared.state.Log.{Log}
 use Rattle.log.specs.declared.state.Turn.{Turn}
-use Rattle.log.specs.declared.answers.Fed.{Fed}
 use Rattle.log.proofs.Messages.{fine}
-use Rattle.log.proofs.Standing.{by-whole, by-parted, far, carried, request-stands}
+use Rattle.log.proofs.Standing.{by-whole, far, carried, request-stands}
 use Rattle.log.proofs.Heads.{kind-front, same-header, accepted-is, accepted-turn, request-length}
 use Rattle.log.proofs.Accepting.{last-stands}
 
@@ -220,7 +217,7 @@ module _ (s : Standing) (rest : List ℕ) (resumes : Bool) (kind p n : ℕ) (x :
           let f : length (part .got ++ take n rest) ≤ 16388 = omega (arith, x .in-turn .size, longs, length-append (part .got) rest) in
           record {
             place = rw (z .0) (st .place);
-            hash = carried log s (part .got) (take n rest) (told (part .resumes)) kind p st (x .before) f (far log s m (told (part .resumes)) kind p st (x .in-turn)) (r .hash) worked (y .hash);
+            hash = carried log s (part .got) (take n rest) st (x .before) f (far log s m (told (part .resumes)) kind p st (x .in-turn)) (r .hash) worked (y .hash);
             short = st .short;
             session = z .1 ∙ st .session;
             client = y .client ∙ st .client;

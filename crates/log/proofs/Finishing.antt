@@ -3,7 +3,7 @@
 use mathlib.Core.Path.{_≡_, refl, sym, _∙_, ap, subst}
 use mathlib.Core.Bool.{Bool, true, false, not, _&&_, false≢true}
 use mathlib.Core.List.{List, [], _∷_, _++_, append-nil}
-use Prim.Native.Nat.{ℕ, _+_, _≤_}
+use Prim.Native.Nat.{ℕ, _≤_}
 use native.Mathlib.Omega.{arith}
 use lib.Dec.{eqb}
 use lib.ListN.{length, replicate}
@@ -211,7 +211,7 @@ module _ (log : Log) (m value : List ℕ) (q : ℕ) (r : Log) (worked : ℕ) (x 
   takes-by value₁ value₂ f g h secret s l d c v =
       let t = in-turn h secret s l d (c .kind) in
       let y = x .last refl in
-      let i = carried log (whole h) [] m (under secret) 20 q s (sym (append-nil (hashed h))) l (far log (whole h) m (under secret) 20 q s t) (r .hash) worked (x .hash) in
+      let i = carried log (whole h) [] m s (sym (append-nil (hashed h))) l (far log (whole h) m (under secret) 20 q s t) (r .hash) worked (x .hash) in
       taking-stands log (whole h) m (under secret) 20 q s t
       (record { hash = r .hash; place = r .place; session = r .session; client = value₁; server = value₂; kind = r .kind; next = r .next; left = r .left })
       i (y .0) (x .session refl (hashed h ++ m) i)

@@ -1,13 +1,13 @@
 -- A message that is accepted, by its first four bytes and its length: what the single call judges before it takes anything.
 -- Assumes nothing.
 use mathlib.Core.Path.{_≡_, refl, sym, _∙_, ap}
-use mathlib.Core.Bool.{Bool, true, false, not, _&&_, _||_}
+use mathlib.Core.Bool.{Bool, true, false, not, _||_}
 use mathlib.Core.List.{List, [], _∷_, _++_}
-use Prim.Native.Nat.{ℕ, _+_, _≤_, _<_}
+use Prim.Native.Nat.{ℕ, _≤_, _<_}
 use native.Mathlib.Omega.{arith}
 use lib.Dec.{eqb}
 use lib.ListN.{length, take, drop, getD, length-drop}
-use lib.Seq.{getD-take, take-append-le}
+use lib.Seq.{getD-take}
 use borrow.Author.Tests.{eqb-true, eqb-false, ne-eqb, not-false}
 use Rattle.refusal.specs.First.{firstOf}
 use Rattle.refusal.proofs.First.{first-zero}
@@ -20,7 +20,7 @@ use Rattle.log.specs.Standing.Standing.{whole}
 use Rattle.log.specs.Calls.{wrongBody, misshapen, shapeNumber, isFinished, outOfTurn, acceptNumber}
 use Rattle.log.specs.Stands.{number}
 use Rattle.log.specs.Steps.{InTurn}
-use Rattle.log.proofs.Messages.{Fine, fine}
+use Rattle.log.proofs.Messages.{fine}
 
 -- bytes that follow do not change the type
 pub kind-front : (a b : List ℕ) → 1 ≤ length a → kindOf (a ++ b) ≡ kindOf a

@@ -1,16 +1,16 @@
 -- Order 4's theorem: each part leads to a log between parts of which as much is known as before, and the last one to the log that the
 -- single call gives, for a log is one value for what it stands for.
 -- Assumes nothing.
-use mathlib.Core.Path.{_≡_, refl, sym, _∙_, ap, ap₂, subst}
-use mathlib.Core.Bool.{Bool, true, false, not}
+use mathlib.Core.Path.{_≡_, refl, sym, _∙_, ap, ap₂}
+use mathlib.Core.Bool.{Bool, false, not}
 use mathlib.Core.Logic.{_⊎_, inl, inr}
 use mathlib.Core.List.{List, [], _∷_, _++_, append-nil, append-assoc}
-use Prim.Native.Nat.{ℕ, _+_, _-_, _/_, _≤_, _<_}
+use Prim.Native.Nat.{ℕ, _+_, _≤_}
 use native.Mathlib.Nat.{add-zero}
 use native.Mathlib.Omega.{arith}
 use lib.Dec.{eqb}
 use lib.ListN.{length, take, length-append}
-use lib.Seq.{take-all, length-take-le}
+use lib.Seq.{take-all}
 use borrow.Author.Tests.{eq-eqb, ne-eqb, eqb-true, not-false}
 use Rattle.seqs.specs.Pick.{pick}
 use Rattle.seqs.specs.Cases.{by-test}
@@ -25,15 +25,13 @@ use Rattle.log.specs.History.History.{accepted}
 use Rattle.log.specs.History.Beside.{told}
 use Rattle.log.specs.Standing.{Standing, Part, historyOf, entered, leftOf}
 use Rattle.log.specs.Standing.Standing.{whole, parted}
-use Rattle.log.specs.Calls.{brokenAt, shapeNumber, acceptNumber, afterAccept, sessionNumber, finishedOf}
+use Rattle.log.specs.Calls.{brokenAt, acceptNumber, afterAccept, sessionNumber, finishedOf}
 use Rattle.log.specs.Finish.{expectedNumber}
 use Rattle.log.specs.Feed.{badAllowance, begun, feedNumber, lets, gotBy, blocksBy, takes, feedTaken, feedBlocks, afterFeed}
 use Rattle.log.specs.Stands.{Stands}
-use Rattle.log.specs.Promise.{Accepts}
 use Rattle.log.specs.Parts.{Feeding, Taken, Parts, bytesTaken, blocksWorked, AsOne, PartByPart, Progress, OnlyTheNext}
 use Rattle.log.specs.Parts.Parts.{last, part}
 use Rattle.log.specs.declared.state.Log.{Log}
-use Rattle.log.specs.declared.answers.Accepted.{Accepted}
 use Rattle.log.proofs.Alone.{alone}
 use Rattle.log.proofs.Messages.{fine}
 use Rattle.log.proofs.Heads.{kind-front}

@@ -1,6 +1,6 @@
 -- What each step keeps of `Stands`: a log that is fresh, that has accepted a HelloRequest, or that bytes of a message have entered.
 -- Assumes nothing.
-use mathlib.Core.Path.{_≡_, refl, sym, _∙_, ap, subst}
+use mathlib.Core.Path.{_≡_, refl, _∙_, ap, subst}
 use mathlib.Core.Bool.{Bool, true, false, _&&_}
 use mathlib.Core.List.{List, [], _++_, append-assoc}
 use Prim.Native.Nat.{ℕ, _+_, _≤_}
@@ -70,8 +70,8 @@ pub by-parted : (log : Log) → (log .left ≡ 0 → ⊥) → (s : Standing) →
 by-parted log e (whole h) st = absurd (e (st .part .left))
 by-parted log e (parted h p) st = refl
 
--- bytes behind those that were taken of a message: both together are in turn
-module _ (log : Log) (s : Standing) (got bytes : List ℕ) (b : Beside) (k p : ℕ) (st : Stands log s) (e : entered s ≡ hashed (historyOf s) ++ got)
+-- bytes behind those that were taken of a message
+module _ (log : Log) (s : Standing) (got bytes : List ℕ) (st : Stands log s) (e : entered s ≡ hashed (historyOf s) ++ got)
     (size : length (got ++ bytes) ≤ 16388) (far : length (hashed (historyOf s)) ≤ 262208) where
   -- the hash is far from its bound
   pub room : length (entered s) + length bytes ≤ most

@@ -3,8 +3,8 @@
 -- Assumes nothing.
 use mathlib.Core.Path.{_≡_, refl, sym, _∙_, ap, ap₂}
 use mathlib.Core.Bool.{Bool, true, false, not, _&&_, false≢true}
-use mathlib.Core.List.{List, [], _∷_, _++_, append-nil}
-use Prim.Native.Nat.{ℕ, _+_, _-_, _≤_}
+use mathlib.Core.List.{List, [], _∷_, _++_}
+use Prim.Native.Nat.{ℕ, _-_, _≤_}
 use native.Mathlib.Omega.{arith}
 use lib.Dec.{eqb}
 use lib.ListN.{length, take, replicate, length-append, length-replicate}
@@ -17,23 +17,21 @@ use Rattle.refusal.specs.declared.Refusal.{Refusal}
 use Rattle.octets.specs.Same.{same}
 use Rattle.message.specs.Frame.{kindOf, bodyOf}
 use Rattle.sha256.specs.Sha256.{sha256}
-use Rattle.sha256.specs.Running.{most}
 use Rattle.transcript.specs.Allowance.{letIn}
 use Rattle.transcript.specs.Laws.{letIn-within, letIn-length}
 use Rattle.transcript.proofs.Further.{further, furtherWorked, further-enters, one-digest, same-length}
 use Rattle.prf.specs.Hash.{SHA256}
 use Rattle.prf.specs.Secrets.{verifyData}
 use Rattle.log.specs.Order.{Place, turns, look, finishedDue}
-use Rattle.log.specs.History.{History, tells, placeOf, hashed, fromServer}
+use Rattle.log.specs.History.{History, placeOf, hashed, fromServer}
 use Rattle.log.specs.History.History.{fresh}
-use Rattle.log.specs.History.Beside.{told, under}
-use Rattle.log.specs.Standing.{Standing, historyOf, between, entered, leftOf}
+use Rattle.log.specs.Standing.{Standing, Part, historyOf, between, entered, leftOf}
 use Rattle.log.specs.Standing.Standing.{whole, parted}
 use Rattle.log.specs.Calls.{shapeNumber, brokenAt}
 use Rattle.log.specs.Finish.{expectedValue}
 use Rattle.log.specs.Feed.{badAllowance}
 use Rattle.log.specs.Stands.{Stands, Placed, number}
-use Rattle.log.specs.Steps.{Judges, InTurn, TurnOf, PartTurn, Entered, Asks, Takes}
+use Rattle.log.specs.Steps.{Judges, TurnOf, PartTurn, Entered, Asks, Takes}
 use Rattle.log.specs.Promise.{Feeds}
 use Rattle.log.specs.Runs.{Call, after, Step, Ran, Total}
 use Rattle.log.specs.Runs.Call.{accept, finish, feed}
@@ -46,7 +44,6 @@ use Rattle.log.specs.declared.answers.Fed.{Fed}
 use Rattle.log.proofs.Turns.{number-most, same-place}
 use Rattle.log.proofs.Places.{from-server-by}
 use Rattle.log.proofs.Messages.{fine}
-use Rattle.log.proofs.Standing.{by-whole, far, room}
 use Rattle.log.proofs.Heads.{accepted-is}
 use Rattle.log.proofs.Entered.{entered-part, entered-exchange, entered-other}
 use Rattle.log.proofs.Runs.{step-stands}
@@ -90,14 +87,24 @@ record Entry (log : Log) (bytes : List ℕ) (k p left : ℕ) : Type 0 where
   worked : ℕ
   enters : Entered log bytes k p left log′ worked
 
--- the bytes that are left of a message are few
-left-most : (log : Log) (s : Standing) → Stands log s → log .left ≤ 65535
-left-most log (whole h) st = omega (arith, st .part .left)
-left-most log (parted h p) st =
+-- a message between parts has at most as many bytes as any
+total-most : (log : Log) (h : History) (p : Part) → Stands log (parted h p) → p .total ≤ 16388
+total-most log h p st =
     let rest : List ℕ = replicate (leftOf p) 0 in
     let n : length rest ≡ leftOf p = length-replicate (leftOf p) 0 in
     let f = fine (p .got ++ rest) (accepted-is h (p .got ++ rest) (p .resumes) (st .part .judged rest n) .shape) in
-    omega (arith, st .part .left, length-append (p .got) rest, f .longest, n)
+    omega (arith, length-append (p .got) rest, n, f .longest)
+
+-- so few are left of it
+left-most : (log : Log) (s : Standing) → Stands log s → log .left ≤ 65535
+left-most log (whole h) st = omega (arith, st .part .left)
+left-most log (parted h p) st = omega (arith, st .part .left, total-most log h p st)
+
+-- and what has entered is far from the hash's bound
+near : (log : Log) (s : Standing) → Stands log s → length (entered s) ≤ 294984
+near log (whole h) st = omega (arith, st .short, number-most (placeOf h))
+near log (parted h p) st =
+    omega (arith, st .short, number-most (placeOf h), length-append (hashed h) (p .got), st .part .some, total-most log h p st)
 
 -- what a log stands for is whole by the bytes that are left
 same-between : (log : Log) (s t : Standing) → Stands log s → Stands log t → between s ≡ between t
@@ -105,15 +112,6 @@ same-between log (whole h) (whole g) p q = refl
 same-between log (whole h) (parted g r) p q = absurd (omega (arith, p .part .left, q .part .left, q .part .some))
 same-between log (parted h r) (whole g) p q = absurd (omega (arith, q .part .left, p .part .left, p .part .some))
 same-between log (parted h r) (parted g u) p q = refl
-
--- what has entered is far from the hash's bound
-near : (log : Log) (s : Standing) → Stands log s → length (entered s) ≤ 294984
-near log (whole h) st = omega (arith, st .short, number-most (placeOf h))
-near log (parted h p) st =
-    let rest : List ℕ = replicate (leftOf p) 0 in
-    let n : length rest ≡ leftOf p = length-replicate (leftOf p) 0 in
-    let f = fine (p .got ++ rest) (accepted-is h (p .got ++ rest) (p .resumes) (st .part .judged rest n) .shape) in
-    omega (arith, st .short, number-most (placeOf h), length-append (hashed h) (p .got), length-append (p .got) rest, f .longest)
 
 module _ (log : Log) (s : Standing) (st : Stands log s) where
   entry : (bytes : List ℕ) (k p left : ℕ) → length bytes ≤ 65535 → Entry log bytes k p left

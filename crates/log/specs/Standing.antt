@@ -1,7 +1,7 @@
 -- What a log stands for: its history and, between the parts of a message, that message (document 02, order 4).
 -- Assumes nothing.
 use mathlib.Core.Bool.{Bool, true, false}
-use mathlib.Core.List.{List, [], _++_}
+use mathlib.Core.List.{List, _++_}
 use Prim.Native.Nat.{ℕ, _-_}
 use lib.ListN.{length}
 use Rattle.log.specs.History.{History, hashed}

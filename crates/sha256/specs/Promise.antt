@@ -2,15 +2,16 @@
 -- Assumes nothing.
 use mathlib.Core.Path.{_≡_}
 use mathlib.Core.List.{List, [], _∷_, _++_}
-use Prim.Native.Nat.{ℕ, _+_, _≤_, _<_}
+use Prim.Native.Nat.{ℕ, _+_, _*_, _≤_, _<_}
 use lib.Dec.{ltb}
-use lib.ListN.{length, replicate}
+use lib.ListN.{length, drop, replicate}
 use Rattle.seqs.specs.Pick.{pick}
-use Rattle.seqs.specs.Taken.{completed}
+use Rattle.seqs.specs.Taken.{wholeBlocks, completed}
 use Rattle.refusal.specs.First.{firstOf}
 use Rattle.refusal.specs.Table.{refusalOf}
+use Rattle.sha256.specs.Layout.{valueOf}
 use Rattle.sha256.specs.Running.{Running, taken, most}
-use Rattle.sha256.specs.Sha256.{sha256}
+use Rattle.sha256.specs.Sha256.{hashed, sha256}
 use Rattle.sha256.specs.declared.running.Hash.{Hash}
 use Rattle.sha256.specs.declared.running.Absorbed.{Absorbed}
 use Rattle.sha256.specs.declared.running.Digested.{Digested}
@@ -30,6 +31,13 @@ pub record Absorbs (hash : Hash) (bytes : List ℕ) (r : Absorbed) : Type 0 wher
 pub record Takes (hash : Hash) (bytes : List ℕ) (r : Hash) (worked : ℕ) : Type 0 where
   pub runs : (m : List ℕ) → Running hash m → length m + length bytes ≤ most → Running r (m ++ bytes)
   pub counts : (m : List ℕ) → Running hash m → worked ≡ completed 64 m bytes
+
+-- So the number is that of the steps of FIPS 180-4 by which the one hash value leads to the other, over the blocks behind those of m. The
+-- proof is proofs/Counting.antt.
+abbrev pub WorkedAreSteps : Type 0
+WorkedAreSteps =
+    (hash r : Hash) (bytes m : List ℕ) (worked : ℕ) → Takes hash bytes r worked → Running hash m → length m + length bytes ≤ most
+    → valueOf (r .state) ≡ hashed (valueOf (hash .state)) worked (drop (64 * wholeBlocks 64 m) (m ++ bytes))
 
 -- the one-shot call
 unfoldable pub digestedOf : List ℕ → Digested

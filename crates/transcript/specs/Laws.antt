@@ -1,4 +1,4 @@
--- Laws: what the parts above may use of the carried hashes and of an allowance, and open neither.
+-- Laws: what the parts above may use of an allowance, and do not open it.
 -- Assumes nothing.
 use mathlib.Core.Path.{_≡_, ap}
 use mathlib.Core.List.{List}
@@ -9,15 +9,7 @@ use borrow.Author.Tests.{leb-true, leb-false, le-leb, lt-leb}
 use lib.Dec.{leb}
 use lib.ListN.{length}
 use Rattle.seqs.specs.Cases.{by-test}
-use Rattle.sha256.specs.Running.{most}
-use Rattle.sha256.specs.Laws.{running-bounded}
 use Rattle.transcript.specs.Allowance.{room, letIn}
-use Rattle.transcript.specs.Carries.{Carries}
-use Rattle.transcript.specs.declared.Transcript.{Transcript}
-
--- what is carried is within the bound of each hash
-pub carries-bounded : {t : Transcript} {m : List ℕ} → Carries t m → length m ≤ most
-carries-bounded h = running-bounded (h .sha256)
 
 -- an allowance of a block or more has room for 64 bytes
 room-some : (k : ℕ) (m : List ℕ) → 1 ≤ k → 64 ≤ room k m
@@ -45,12 +37,9 @@ module _ (k : ℕ) (m : List ℕ) (left : ℕ) where
       (λ e. let h = leb-true left (room k m) e in all h (letIn-all h))
       (λ e. let h = leb-false left (room k m) e in part h (letIn-part h))
 
-  -- no more than is left, and no more than there is room for
+  -- no more than is left
   pub letIn-within : letIn k m left ≤ left
   letIn-within = smaller (λ h e. omega arith) (λ h e. omega arith)
-
-  pub letIn-room : letIn k m left ≤ room k m
-  letIn-room = smaller (λ h e. omega arith) (λ h e. omega arith)
 
   -- all that is left, or 64 bytes and more: a message that is fed comes to its end
   pub letIn-some : 1 ≤ k → (letIn k m left ≡ left) ⊎ (64 ≤ letIn k m left)

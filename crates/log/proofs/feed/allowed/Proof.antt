@@ -1,7 +1,5 @@
 -- 1 to 256.
 -- Assumes nothing.
-use lib.Dec.{eqb}
-use Rattle.log.specs.Feed.{badAllowance}
 use Rattle.log.proofs.Feeding.{allowed-by, allowed-none}
 use Rattle.log.proofs.feed.allowed.Statement.{statement}
 use Rattle.log.proofs.feed.allowed.Tie as tie
