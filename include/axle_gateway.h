@@ -605,8 +605,8 @@ AxleExpected axle_log_expected_finished(AxleLog log, const uint8_t *secret, size
 /* ---- Completion ------------------------------------------------------------------------------------------------- */
 
 /* Both Finished are taken: writes to the record, where it stands, completed, the decision's flag and bar, and both
- * verify_data values. 7, with the record as it was, earlier, with a refused decision, or where decision and log disagree
- * on resuming. The record must not be NULL. */
+ * verify_data values. 7, with the record as it was, earlier (so between the parts of a message), with a refused decision, or
+ * where decision and log disagree on resuming. The record must not be NULL. */
 AxleRefusal axle_complete(AxleConnection *connection, AxleLog log, AxleDecision decision);
 
 /* ---- Stack ------------------------------------------------------------------------------------------------------ */

@@ -134,7 +134,7 @@ def test_real_handshakes():
 
 
 def test_the_longest_message():
-    """A Certificate of 16,388 bytes after hellos of every length modulo 64: by the least, by the most and by mixed allowances."""
+    """A Certificate of 16,388 bytes with 0, 1, 31, 59, 60 or 63 bytes waiting: by the least, by the most and by mixed allowances."""
     r, most = random.Random(3), 0
     for waiting in (0, 1, 31, 59, 60, 63):
         begun = Parts()

@@ -18,7 +18,7 @@ use Rattle.log.specs.History.{complete, verifyDataOf}
 use Rattle.log.specs.History.History.{fresh}
 use Rattle.log.specs.History.Side.{client, server}
 use Rattle.log.specs.Standing.{Standing, historyOf, between}
-use Rattle.log.specs.Standing.Standing.{whole}
+use Rattle.log.specs.Standing.Standing.{whole, parted}
 use Rattle.log.specs.Calls.{finishedOf}
 use Rattle.log.specs.Stands.{Stands}
 use Rattle.log.specs.Runs.{standingFrom, Came}
@@ -28,7 +28,7 @@ use Rattle.log.specs.declared.answers.Finished.{Finished}
 use Rattle.decision.specs.declared.connection.Connection.{Connection}
 use Rattle.decision.specs.declared.connection.Decision.{Decision}
 use Rattle.gateway.specs.declared.completion.Completed.{Completed}
-use Rattle.gateway.specs.Completion.{completeNumber, completedRecord, completedOf, Completes, WritesChecked}
+use Rattle.gateway.specs.Completion.{completeNumber, completedRecord, completedOf, Completes, WritesChecked, NotBetween}
 
 -- 7, and the record as it was
 abbrev pub refusedWith : Connection → Completed
@@ -113,3 +113,10 @@ writes-checked begun log cs s run was after d r p z =
       subst (λ (x : List ℕ). Came client h x) (sym (ap (λ (x : Connection). x .client) w ∙ v .0)) (l .came c client),
       subst (λ (x : List ℕ). Came server h x) (sym (ap (λ (x : Connection). x .server) w ∙ v .1)) (l .came c server),
     )
+
+pub not-between : NotBetween
+unfolding completedOf completeNumber finishedOf firstOf
+not-between log (whole h) st b was after d r c = absurd (false≢true b)
+not-between log (parted h p) st b was after d r c =
+    let f = c .stands (parted h p) st in
+    (c .refusal ∙ ap (λ (x : Finished). completedOf was x d .refusal) f, c .connection ∙ ap (λ (x : Finished). completedOf was x d .connection) f)

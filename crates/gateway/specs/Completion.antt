@@ -1,7 +1,7 @@
 -- Completion (document 01, 'The message log'): the one place where a connection record changes.
 -- Assumes nothing.
 use mathlib.Core.Path.{_≡_}
-use mathlib.Core.Bool.{not}
+use mathlib.Core.Bool.{true, not}
 use mathlib.Core.List.{List, [], _∷_}
 use Prim.Native.Nat.{ℕ}
 use lib.Dec.{eqb}
@@ -12,7 +12,7 @@ use Rattle.refusal.specs.Table.{refusalOf}
 use Rattle.refusal.specs.declared.Refusal.{Refusal}
 use Rattle.log.specs.History.History.{fresh}
 use Rattle.log.specs.History.Side.{client, server}
-use Rattle.log.specs.Standing.{Standing, historyOf}
+use Rattle.log.specs.Standing.{Standing, historyOf, between}
 use Rattle.log.specs.Standing.Standing.{whole}
 use Rattle.log.specs.Calls.{finishedOf}
 use Rattle.log.specs.Stands.{Stands}
@@ -67,3 +67,9 @@ WritesChecked =
     (begun log : Log) (cs : List Call) → Stands begun (whole fresh) → Run begun cs log
     → (was after : Connection) (d : Decision) (r : Refusal) → Completes was log d r after → r .number ≡ 0
     → Came client (historyOf (standingFrom (whole fresh) cs)) (after .client) × Came server (historyOf (standingFrom (whole fresh) cs)) (after .server)
+
+-- Order 4: '7 for another log call between parts', and the record stays as it was. The proof is proofs/Completing.antt.
+abbrev pub NotBetween : Type 0
+NotBetween =
+    (log : Log) (s : Standing) → Stands log s → between s ≡ true
+    → (was after : Connection) (d : Decision) (r : Refusal) → Completes was log d r after → (r ≡ refusalOf 7) × (after ≡ was)

@@ -1,10 +1,10 @@
 -- A message that the single call accepts enters by every list of allowances that is long enough; and the cases of specs/Parts.antt.
 -- Assumes nothing.
 use mathlib.Core.Path.{_≡_, refl, _∙_, ap}
-use mathlib.Core.Bool.{Bool, false}
+use mathlib.Core.Bool.{Bool, true, false}
 use mathlib.Core.Logic.{_⊎_, inl, inr}
 use mathlib.Core.List.{List, [], _∷_, _++_, map, append-nil}
-use Prim.Native.Nat.{ℕ, zero, suc, _+_, _-_, _*_, _≤_, _<_}
+use Prim.Native.Nat.{ℕ, zero, suc, _+_, _-_, _*_, _≤_}
 use native.Mathlib.Omega.{arith}
 use lib.Dec.{eqb}
 use lib.ListN.{length, take, drop, replicate, length-append, length-drop, length-replicate, take-append-drop}
@@ -15,7 +15,7 @@ use Rattle.refusal.specs.First.{firstOf}
 use Rattle.refusal.specs.Listed.{numbered-at}
 use Rattle.message.specs.Numbers.{byteAt, pairAt, tripleAt}
 use Rattle.message.specs.Frame.{kindOf, bodyOf, overlong, cutOff, misstated}
-use Rattle.transcript.specs.Allowance.{room, letIn}
+use Rattle.transcript.specs.Allowance.{room, letIn, blocks}
 use Rattle.log.specs.Order.{turns, isDue, look}
 use Rattle.log.specs.History.{History, tells, placeOf, hashed}
 use Rattle.log.specs.History.History.{fresh, accepted}
@@ -25,13 +25,14 @@ use Rattle.log.specs.Standing.Standing.{whole, parted}
 use Rattle.log.specs.Calls.{wrongBody, misshapen, brokenAt, isFinished, outOfTurn, acceptNumber, afterAccept}
 use Rattle.log.specs.Feed.{badAllowance, begun, feedNumber, gotBy, blocksBy, takes, feedTaken, feedBlocks, afterFeed}
 use Rattle.log.specs.Stands.{Stands}
-use Rattle.log.specs.Parts.{Feeding, Taken, bytesTaken, Allowances, EntersBy, EveryAllowance, fedBy, clientHello, serverHello, certificate, CertificateBy, Order4Cases}
+use Rattle.log.specs.Parts.{Feeding, Taken, bytesTaken, Allowances, blocksIn, EntersBy, EveryAllowance, fedBy, clientHello, serverHello, certificate, CertificateBy, Order4Cases, longServer, answered}
 use Rattle.log.specs.Parts.Parts.{last, part}
 use Rattle.log.specs.Runs.{Call, after, standingFrom}
 use Rattle.log.specs.Runs.Call.{accept}
 use Rattle.log.specs.declared.state.Log.{Log}
 use Rattle.log.proofs.Messages.{fine}
 use Rattle.log.proofs.Heads.{accepted-is}
+use Rattle.log.proofs.Feeding.{below}
 use Rattle.log.proofs.Runs.{law}
 use Rattle.log.proofs.Total.{feed-answered, total}
 use Rattle.log.proofs.Parts.{taken, leaves-part, progress}
@@ -50,8 +51,8 @@ ready-part h p rest resumes e k b = rw (b, eq-eqb (length rest) (leftOf p) e)
 
 go : (ks : List ℕ) (log : Log) (s : Standing) (rest : List ℕ) (resumes : Bool) → Stands log s → Ready s rest resumes → 1 ≤ length rest
     → length (begun s rest resumes .got) + length rest ≡ begun s rest resumes .total
-    → Allowances ks → length rest ≤ 64 * length ks → EntersBy log rest resumes ks
-unfolding Allowances bytesTaken
+    → Allowances ks → length rest ≤ 64 * blocksIn ks → EntersBy log rest resumes ks
+unfolding Allowances bytesTaken blocksIn
 go [] log s rest resumes st ready some due a l = absurd (omega arith)
 go (k ∷ ks) log s rest resumes st ready some due a l =
     let b = good k (a .0) (a .1) in
@@ -72,6 +73,7 @@ go (k ∷ ks) log s rest resumes st ready some due a l =
       left = f .answer .log;
       run = last t q;
       taken = append-nil (take n rest) ∙ take-all n rest (omega arith);
+      told = refl;
       unused = ks;
       allowances = refl;
     })
@@ -82,26 +84,24 @@ go (k ∷ ks) log s rest resumes st ready some due a l =
     length-append (begun s rest resumes .got) (take n rest) ∙ ap (λ (i : ℕ). length (begun s rest resumes .got) + i) (length-take-le n rest w) in
     let p : Part = record { got = gotBy s rest n resumes; total = begun s rest resumes .total; resumes = begun s rest resumes .resumes } in
     let y : length (drop n rest) ≡ length rest - n = length-drop n rest in
-    let u = strict n (length rest) w q in
+    let u = below n (length rest) w q in
     let r =
     go ks (f .answer .log) (parted (historyOf s) p) (drop n rest) resumes (leaves-part log s f st t q)
     (ready-part (historyOf s) p (drop n rest) resumes (y ∙ (omega (arith, x, due, w))))
-    (omega (arith, y, u)) (omega (arith, x, y, due, w)) (a .2) (omega (arith, y, l, enough n (length rest) (progress log s f st t) q)) in
+    (omega (arith, y, u)) (omega (arith, x, y, due, w)) (a .2) (omega (arith, y, l, enough k n (length rest) (progress log s f st t) q)) in
     record {
       parts = f ∷ r .parts;
       left = r .left;
       run = part {log′ = r .left} {fs = r .parts} t q (r .run);
       taken = ap (λ (i : List ℕ). take n rest ++ i) {x = bytesTaken (r .parts)} (r .taken) ∙ take-append-drop n rest;
+      told = ap (λ (i : List Bool). resumes ∷ i) {x = map (λ (g : Feeding). g .resumes) (r .parts)} (r .told);
       unused = r .unused;
       allowances = ap (λ (i : List ℕ). k ∷ i) {x = map (λ (g : Feeding). g .allowance) (r .parts) ++ r .unused} (r .allowances);
     })
   where
-    strict : (n l : ℕ) → n ≤ l → (n ≡ l → ⊥) → n < l
-    strict n l h z = omega (arith, h, z)
-
-    enough : (n l : ℕ) → (n ≡ l) ⊎ (64 ≤ n) → (n ≡ l → ⊥) → 64 ≤ n
-    enough n l (inl e) z = absurd (z e)
-    enough n l (inr e) z = e
+    enough : (k n l : ℕ) → (n ≡ l) ⊎ ((1 ≤ k) × (64 * k ≤ n)) → (n ≡ l → ⊥) → 64 * k ≤ n
+    enough k n l (inl e) z = absurd (z e)
+    enough k n l (inr e) z = e .1
 
 pub every-allowance : EveryAllowance
 unfolding feedNumber
@@ -115,6 +115,11 @@ unfolding Allowances
 allowances-of zero k g l = tt
 allowances-of (suc n) k g l = (g, l, allowances-of n k g l)
 
+blocks-of : (n : ℕ) → blocksIn (replicate n 1) ≡ n
+unfolding blocksIn
+blocks-of zero = refl
+blocks-of (suc n) = omega (arith, blocks-of n)
+
 greeting : History
 greeting = accepted (accepted fresh clientHello (told false)) serverHello (told false)
 
@@ -124,7 +129,7 @@ unfolding greeting acceptNumber firstOf overlong misstated cutOff misshapen wron
 certificate-due = refl
 
 met : (log : Log) → Stands log (whole fresh) → CertificateBy log
-unfolding Allowances greeting standingFrom after afterAccept acceptNumber firstOf overlong misstated cutOff misshapen wrongBody isFinished outOfTurn placeOf tells turns isDue look kindOf bodyOf byteAt pairAt tripleAt
+unfolding Allowances blocksIn greeting standingFrom after afterAccept acceptNumber firstOf overlong misstated cutOff misshapen wrongBody isFinished outOfTurn placeOf tells turns isDue look kindOf bodyOf byteAt pairAt tripleAt
 met log st =
     let cs : List Call = accept clientHello false ∷ accept serverHello false ∷ [] in
     let r = total log cs st in
@@ -133,13 +138,19 @@ met log st =
     record {
       greeted = r .left;
       hellos = r .run;
-      ones = every-allowance (r .left) greeting certificate false (replicate 257 1) g certificate-due (allowances-of 257 1 (omega arith) (omega arith)) n;
-      most = every-allowance (r .left) greeting certificate false (replicate 257 256) g certificate-due (allowances-of 257 256 (omega arith) (omega arith)) n;
+      ones = every-allowance (r .left) greeting certificate false (replicate 257 1) g certificate-due (allowances-of 257 1 (omega arith) (omega arith)) (omega (arith, n, blocks-of 257));
+      most = every-allowance (r .left) greeting certificate false (256 ∷ 256 ∷ []) g certificate-due (allowances-of 2 256 (omega arith) (omega arith)) (omega (arith, n));
       mixed =
-          every-allowance (r .left) greeting certificate false (1 ∷ 256 ∷ replicate 255 16) g certificate-due
-          (omega arith, omega arith, (omega arith, omega arith, allowances-of 255 16 (omega arith) (omega arith))) n;
+          every-allowance (r .left) greeting certificate false (1 ∷ 255 ∷ 16 ∷ []) g certificate-due
+          (omega arith, omega arith, (omega arith, omega arith, allowances-of 1 16 (omega arith) (omega arith))) (omega (arith, n));
     }
 
+told-first : (first later : Bool)
+    → answered first later ≡ whole (accepted (accepted fresh clientHello (told false)) (take 83 longServer ++ replicate 41 9) (told first))
+unfolding standingFrom after takes afterFeed afterAccept feedNumber badAllowance letIn room blocks hashed acceptNumber firstOf overlong misstated cutOff misshapen wrongBody isFinished outOfTurn placeOf tells turns isDue look kindOf bodyOf byteAt pairAt tripleAt
+told-first true later = refl
+told-first false later = refl
+
 pub order4-cases : Order4Cases
-unfolding fedBy feedTaken feedBlocks blocksBy takes afterFeed feedNumber badAllowance letIn room hashed acceptNumber firstOf overlong misstated cutOff misshapen wrongBody isFinished outOfTurn placeOf tells turns isDue look kindOf bodyOf byteAt pairAt tripleAt
-order4-cases = record { hello = refl; rest = refl; request = refl; met = met }
+unfolding fedBy feedTaken feedBlocks blocksBy takes afterFeed feedNumber badAllowance letIn room blocks hashed acceptNumber firstOf overlong misstated cutOff misshapen wrongBody isFinished outOfTurn placeOf tells turns isDue look kindOf bodyOf byteAt pairAt tripleAt
+order4-cases = record { hello = refl; rest = refl; request = refl; told = told-first; met = met }

@@ -8,8 +8,8 @@ use Prim.Native.Nat.{ℕ}
 use native.Mathlib.Omega.{arith}
 use lib.Dec.{eqb}
 use lib.ListN.{replicate, length-replicate}
-use borrow.Author.Tests.{ne-eqb}
-use Rattle.seqs.specs.Cases.{not-both}
+use borrow.Author.Tests.{eqb-true, ne-eqb}
+use Rattle.seqs.specs.Cases.{by-test, not-both}
 use Rattle.refusal.specs.First.{firstOf}
 use Rattle.refusal.specs.Table.{refusalOf}
 use Rattle.refusal.specs.Listed.{listed, numbered}
@@ -78,6 +78,15 @@ module _ (log : Log) where
       by-sum : (log .place ≡ 13) ⊎ (log .place ≡ 16) → (number (placeOf h) ≡ 13) ⊎ (number (placeOf h) ≡ 16)
       by-sum (inl x) = inl (sym (st .place .number) ∙ x)
       by-sum (inr x) = inr (sym (st .place .number) ∙ x)
+
+  pub done-is-whole : (s : Standing) → Stands log s → complete (historyOf s) ≡ true → between s ≡ false
+  done-is-whole (whole h) st e = refl
+  done-is-whole (parted h p) st e = absurd (done-whole (complete-place e) h p st)
+    where
+      complete-place : complete h ≡ true → (log .place ≡ 13) ⊎ (log .place ≡ 16)
+      complete-place q =
+          let c : (eqb (log .place) 13 || eqb (log .place) 16) ≡ true = complete-by (log .place) h (st .place) ∙ q in
+          by-test (eqb (log .place) 13) (λ a. inl (eqb-true (log .place) 13 a)) (λ a. inr (eqb-true (log .place) 16 (rw a at c)))
 
   completes : (h : History) → Stands log (whole h) → (eqb (log .place) 13 || eqb (log .place) 16) ≡ complete h
   completes h s = complete-by (log .place) h (s .place)

@@ -1,4 +1,4 @@
--- The orders over both calls: what each of them takes, and that every order is completed by them.
+-- The orders over the calls that take a whole message: what each of them takes, and that every order is completed by them.
 -- Assumes nothing.
 use mathlib.Core.Path.{_≡_, refl, sym, _∙_, ap}
 use mathlib.Core.Bool.{Bool, true, false, not, _&&_, _||_}

@@ -4,7 +4,7 @@ use mathlib.Core.Path.{_≡_, refl, sym, _∙_, ap, subst}
 use mathlib.Core.Bool.{Bool, true, false, not, false≢true}
 use mathlib.Core.Logic.{_⊎_, inl, inr}
 use mathlib.Core.List.{List, _++_, append-nil, append-assoc}
-use Prim.Native.Nat.{ℕ, _+_, _-_, _≤_, _<_}
+use Prim.Native.Nat.{ℕ, _+_, _-_, _*_, _≤_, _<_}
 use native.Mathlib.Omega.{arith}
 use lib.Dec.{eqb, leb, ltb}
 use lib.ListN.{length, take, drop, length-append, take-append-drop}
@@ -18,7 +18,7 @@ use Rattle.refusal.specs.declared.Refusal.{Refusal}
 use Rattle.message.specs.Frame.{kindOf}
 use Rattle.transcript.specs.Allowance.{letIn}
 use Rattle.transcript.specs.Carries.{Carries}
-use Rattle.transcript.specs.Laws.{letIn-within, letIn-some}
+use Rattle.transcript.specs.Laws.{letIn-within, letIn-blocks}
 use Rattle.log.specs.History.{History, tells, hashed}
 use Rattle.log.specs.History.History.{accepted}
 use Rattle.log.specs.History.Beside.{told}
@@ -35,6 +35,9 @@ use Rattle.log.proofs.Messages.{fine}
 use Rattle.log.proofs.Standing.{by-whole, far, carried, request-stands}
 use Rattle.log.proofs.Heads.{kind-front, same-header, accepted-is, accepted-turn, request-length}
 use Rattle.log.proofs.Accepting.{last-stands}
+
+pub below : (n l : ℕ) → n ≤ l → (n ≡ l → ⊥) → n < l
+below n l h z = omega (arith, h, z)
 
 -- ---- what is asked first
 
@@ -278,11 +281,11 @@ module _ (log : Log) (rest : List ℕ) (k : ℕ) (resumes : Bool) (t : Turn) (o 
     request-feeds c = taken-feeds log (length rest) 0 (omega arith) go
       where
         four : (i : List ℕ) → length rest ≡ 4 → length rest ≡ letIn k i (length rest)
-        four i e = by-sum (letIn-some k i (length rest) (o .allowed z .0))
+        four i e = by-sum (letIn-blocks k i (length rest))
           where
-            by-sum : (letIn k i (length rest) ≡ length rest) ⊎ (64 ≤ letIn k i (length rest)) → length rest ≡ letIn k i (length rest)
+            by-sum : (letIn k i (length rest) ≡ length rest) ⊎ (64 * k ≤ letIn k i (length rest)) → length rest ≡ letIn k i (length rest)
             by-sum (inl q) = sym q
-            by-sum (inr q) = absurd (omega (arith, e, letIn-within k i (length rest)))
+            by-sum (inr q) = absurd (omega (arith, e, letIn-within k i (length rest), o .allowed z .0))
 
         go : (s : Standing) → Stands log s
             → (length rest ≡ lets s rest k) × (0 ≡ blocksBy s rest (length rest) resumes) × Stands log (takes s rest (length rest) resumes)
@@ -314,11 +317,11 @@ module _ (log : Log) (rest : List ℕ) (k : ℕ) (resumes : Bool) (t : Turn) (o 
 
             -- all of the rest, or 64 bytes and more
             enough : (n ≡ length rest) ⊎ (64 ≤ n)
-            enough = by-sum (letIn-some k (entered s) (length rest) (o .allowed z .0))
+            enough = by-sum (letIn-blocks k (entered s) (length rest))
               where
-                by-sum : (lets s rest k ≡ length rest) ⊎ (64 ≤ lets s rest k) → (n ≡ length rest) ⊎ (64 ≤ n)
+                by-sum : (lets s rest k ≡ length rest) ⊎ (64 * k ≤ lets s rest k) → (n ≡ length rest) ⊎ (64 ≤ n)
                 by-sum (inl q) = inl (d ∙ q)
-                by-sum (inr q) = inr (omega (arith, d, q))
+                by-sum (inr q) = inr (omega (arith, d, q, o .allowed z .0))
 
             long : 4 ≤ length (gotBy s rest n resumes)
             long = by-sum enough
@@ -341,8 +344,5 @@ module _ (log : Log) (rest : List ℕ) (k : ℕ) (resumes : Bool) (t : Turn) (o 
 
             some : eqb n (length rest) ≡ false → Stands left (takes s rest n resumes)
             some q =
-                let less : n < length rest = by-order (eqb-false n (length rest) q) in
+                let less : n < length rest = below n (length rest) l (eqb-false n (length rest) q) in
                 rw q (part-stands s rest resumes (t .kind) (t .place) n x log st left worked (length rest - n) y refl less long)
-              where
-                by-order : (n ≡ length rest → ⊥) → n < length rest
-                by-order v = omega (arith, l, v)

@@ -48,12 +48,12 @@ module _ (a b : List ℕ) (e : take 4 a ≡ take 4 b) where
 
 -- what is known of a message that is accepted
 module _ (h : History) (m : List ℕ) (resumes : Bool) (e : acceptNumber (whole h) m resumes ≡ 0) where
-  pub record Taken : Type 0 where
+  pub record Acceptable : Type 0 where
     pub shape : shapeNumber m ≡ 0
     pub other : kindOf m ≡ 20 → ⊥
     pub turn : outOfTurn h m resumes ≡ false
 
-  pub accepted-is : Taken
+  pub accepted-is : Acceptable
   unfolding acceptNumber shapeNumber isFinished firstOf
   accepted-is =
       let none =

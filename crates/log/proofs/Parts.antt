@@ -5,7 +5,7 @@ use mathlib.Core.Path.{_≡_, refl, sym, _∙_, ap, ap₂}
 use mathlib.Core.Bool.{Bool, false, not}
 use mathlib.Core.Logic.{_⊎_, inl, inr}
 use mathlib.Core.List.{List, [], _∷_, _++_, append-nil, append-assoc}
-use Prim.Native.Nat.{ℕ, _+_, _≤_}
+use Prim.Native.Nat.{ℕ, _+_, _*_, _≤_}
 use native.Mathlib.Nat.{add-zero}
 use native.Mathlib.Omega.{arith}
 use lib.Dec.{eqb}
@@ -14,38 +14,35 @@ use lib.Seq.{take-all}
 use borrow.Author.Tests.{eq-eqb, ne-eqb, eqb-true, not-false}
 use Rattle.seqs.specs.Pick.{pick}
 use Rattle.seqs.specs.Cases.{by-test}
-use Rattle.seqs.specs.Taken.{completed}
 use Rattle.refusal.specs.First.{firstOf}
 use Rattle.refusal.proofs.First.{first-zero}
-use Rattle.refusal.specs.Listed.{numbered-at}
+use Rattle.refusal.specs.Table.{refusalOf, refusalAt}
+use Rattle.refusal.specs.Listed.{anywhere, numbered, numbered-at}
+use Rattle.refusal.specs.declared.Refusal.{Refusal}
 use Rattle.message.specs.Frame.{kindOf}
-use Rattle.transcript.specs.Laws.{letIn-some}
+use Rattle.transcript.specs.Allowance.{blocks}
+use Rattle.transcript.specs.Laws.{letIn-blocks, blocks-append}
 use Rattle.log.specs.History.{History, hashed}
 use Rattle.log.specs.History.History.{accepted}
 use Rattle.log.specs.History.Beside.{told}
 use Rattle.log.specs.Standing.{Standing, Part, historyOf, entered, leftOf}
 use Rattle.log.specs.Standing.Standing.{whole, parted}
-use Rattle.log.specs.Calls.{brokenAt, acceptNumber, afterAccept, sessionNumber, finishedOf}
-use Rattle.log.specs.Finish.{expectedNumber}
+use Rattle.log.specs.Calls.{brokenAt, acceptNumber, afterAccept, sessionNumber, sessionHashOf}
+use Rattle.log.specs.Finish.{expectedNumber, expectedOf}
 use Rattle.log.specs.Feed.{badAllowance, begun, feedNumber, lets, gotBy, blocksBy, takes, feedTaken, feedBlocks, afterFeed}
 use Rattle.log.specs.Stands.{Stands}
-use Rattle.log.specs.Parts.{Feeding, Taken, Parts, bytesTaken, blocksWorked, AsOne, PartByPart, Progress, OnlyTheNext}
+use Rattle.log.specs.Parts.{Feeding, Taken, Parts, bytesTaken, blocksWorked, AsOne, PartByPart, Progress, DoneIsWhole, OnlyTheNext}
 use Rattle.log.specs.Parts.Parts.{last, part}
 use Rattle.log.specs.declared.state.Log.{Log}
+use Rattle.log.specs.declared.answers.SessionHash.{SessionHash}
+use Rattle.log.specs.declared.answers.Expected.{Expected}
 use Rattle.log.proofs.Alone.{alone}
 use Rattle.log.proofs.Messages.{fine}
 use Rattle.log.proofs.Heads.{kind-front}
 use Rattle.log.proofs.Accepting.{accept-between}
 use Rattle.log.proofs.Finishing.{finish-between}
 use Rattle.log.proofs.Feeding.{allowance-good}
-
--- blocks that are completed one after the other
-completed-append : (m a b : List ℕ) → completed 64 m a + completed 64 (m ++ a) b ≡ completed 64 m (a ++ b)
-completed-append m a b =
-    let x : length (m ++ a) ≡ length m + length a = length-append m a in
-    let y : length ((m ++ a) ++ b) ≡ length m + length a + length b = length-append (m ++ a) b ∙ ap (λ (i : ℕ). i + length b) x in
-    let z : length (m ++ (a ++ b)) ≡ length m + length a + length b = ap length (sym (append-assoc m a b)) ∙ y in
-    rw (x, y, z) (omega arith)
+use Rattle.log.proofs.Asking.{done-is-whole}
 
 -- a call that is not refused has an allowance
 good : (s : Standing) (rest : List ℕ) (k : ℕ) (resumes : Bool) → feedNumber s rest k resumes ≡ 0 → badAllowance k ≡ false
@@ -102,23 +99,24 @@ module _ (log : Log) (s : Standing) (f : Feeding) (st : Stands log s) (t : Taken
   leaves-part e = rw (ne-eqb (f .answer .taken) (length (f .rest)) e) at leaves
 
 pub progress : Progress
-progress log s f st t = by-sum (letIn-some (f .allowance) (entered s) (length (f .rest)) (allowance-good (f .allowance) (good s (f .rest) (f .allowance) (f .resumes) (number log s f st t)) .0))
+progress log s f st t = by-sum (letIn-blocks (f .allowance) (entered s) (length (f .rest)))
   where
-    by-sum : (lets s (f .rest) (f .allowance) ≡ length (f .rest)) ⊎ (64 ≤ lets s (f .rest) (f .allowance))
-        → (f .answer .taken ≡ length (f .rest)) ⊎ (64 ≤ f .answer .taken)
+    by-sum : (lets s (f .rest) (f .allowance) ≡ length (f .rest)) ⊎ (64 * f .allowance ≤ lets s (f .rest) (f .allowance))
+        → (f .answer .taken ≡ length (f .rest)) ⊎ ((1 ≤ f .allowance) × (64 * f .allowance ≤ f .answer .taken))
     by-sum (inl e) = inl (taken log s f st t ∙ e)
-    by-sum (inr e) = inr (omega (arith, taken log s f st t, e))
+    by-sum (inr e) =
+        inr (allowance-good (f .allowance) (good s (f .rest) (f .allowance) (f .resumes) (number log s f st t)) .0, omega (arith, taken log s f st t, e))
 
 -- ---- the parts behind the first
 
 record Goes (log′ : Log) (h : History) (p : Part) (fs : List Feeding) : Type 0 where
   stands : Stands log′ (whole (accepted h (p .got ++ bytesTaken fs) (told (p .resumes))))
   left : length (bytesTaken fs) ≡ leftOf p
-  worked : blocksWorked fs ≡ completed 64 (hashed h ++ p .got) (bytesTaken fs)
+  worked : blocksWorked fs ≡ blocks (hashed h ++ p .got) (bytesTaken fs)
 
 -- a message between parts is hashed
 worked-part : (log : Log) (h : History) (p : Part) (f : Feeding) → Stands log (parted h p) → Taken log f
-    → f .answer .blocks ≡ completed 64 (hashed h ++ p .got) (take (f .answer .taken) (f .rest))
+    → f .answer .blocks ≡ blocks (hashed h ++ p .got) (take (f .answer .taken) (f .rest))
 unfolding blocksBy
 worked-part log h p f st t =
     let a = take (f .answer .taken) (f .rest) in
@@ -144,15 +142,15 @@ go log log′ h p fs st (part {f = f} {fs = gs} t e r) =
       stands = rw (← append-assoc) (g .stands);
       left = length-append a (bytesTaken gs) ∙ (omega (arith, g .left, length-append (p .got) a, s .part .some));
       worked =
-          ap₂ (λ (x y : ℕ). x + y) (worked-part log h p f st t) (g .worked ∙ ap (λ (l : List ℕ). completed 64 l (bytesTaken gs)) (sym (append-assoc (hashed h) (p .got) a)))
-          ∙ completed-append (hashed h ++ p .got) a (bytesTaken gs);
+          ap₂ (λ (x y : ℕ). x + y) (worked-part log h p f st t) (g .worked ∙ ap (λ (l : List ℕ). blocks l (bytesTaken gs)) (sym (append-assoc (hashed h) (p .got) a)))
+          ∙ blocks-append (hashed h ++ p .got) a (bytesTaken gs);
     }
 
 -- ---- the whole run
 
-module _ (log log′ : Log) (h : History) (m : List ℕ) (resumes : Bool) (blocks : ℕ) (st : Stands log (whole h)) where
+module _ (log log′ : Log) (h : History) (m : List ℕ) (resumes : Bool) (count : ℕ) (st : Stands log (whole h)) where
   as-one : acceptNumber (whole h) m resumes ≡ 0 → Stands log′ (whole (accepted h m (told resumes)))
-      → blocks ≡ pick (eqb (kindOf m) 0) 0 (completed 64 (hashed h) m) → AsOne log log′ h m resumes blocks
+      → count ≡ pick (eqb (kindOf m) 0) 0 (blocks (hashed h) m) → AsOne log log′ h m resumes count
   unfolding afterAccept
   as-one e s w =
       record {
@@ -179,17 +177,31 @@ part-by-part log log′ h f fs st (part t e r) =
     let z : eqb (kindOf a) 0 ≡ false = ne-eqb (kindOf a) 0 (s .part .hashed) in
     as-one log log′ h (a ++ bytesTaken fs) (f .resumes) (f .answer .blocks + blocksWorked fs) st (s .part .judged (bytesTaken fs) (g .left)) (g .stands)
     (rw (k, z)
-    (ap₂ (λ (x y : ℕ). x + y) (worked log (whole h) f st t ∙ (rw z)) (g .worked) ∙ completed-append (hashed h) a (bytesTaken fs)))
+    (ap₂ (λ (x y : ℕ). x + y) (worked log (whole h) f st t ∙ (rw z)) (g .worked) ∙ blocks-append (hashed h) a (bytesTaken fs)))
 
 -- ---- between parts
 
-pub only-the-next : (h : History) (p : Part) → OnlyTheNext h p
-unfolding expectedNumber sessionNumber finishedOf firstOf
-only-the-next h p =
+pub done-whole : DoneIsWhole
+done-whole = done-is-whole
+
+pub only-the-next : OnlyTheNext
+unfolding expectedOf expectedNumber sessionHashOf sessionNumber firstOf
+only-the-next log h p st =
     record {
-      accepts = λ m resumes e. accept-between m resumes (fine m e) (parted h p) refl;
-      finishes = λ secret m n e. finish-between secret m n (fine m e) (parted h p) refl;
-      expects = λ secret n. rw (eq-eqb (length secret) 48 n);
-      hashes = refl;
-      completes = refl;
+      accepts =
+          λ m resumes r a e.
+          let d : r .refusal ≡ refusalOf 7 = seven m (a .refusal (parted h p) st ∙ ap (λ (n : ℕ). refusalAt n (brokenAt m)) (accept-between m resumes (fine m e) (parted h p) refl)) in
+          (d, a .kept (refuses d));
+      finishes =
+          λ secret m r f n e.
+          let d : r .refusal ≡ refusalOf 7 = seven m (f .refusal (parted h p) st ∙ ap (λ (i : ℕ). refusalAt i (brokenAt m)) (finish-between secret m n (fine m e) (parted h p) refl)) in
+          (d, f .kept (refuses d));
+      expects = λ secret r x n. ap (λ (y : Expected). y .refusal) (x .answer (parted h p) st) ∙ (rw (eq-eqb (length secret) 48 n));
+      hashes = λ r x. ap (λ (y : SessionHash). y .refusal) (x .answer (parted h p) st);
     }
+  where
+    seven : {r : Refusal} (m : List ℕ) → r ≡ refusalAt 7 (brokenAt m) → r ≡ refusalOf 7
+    seven m e = e ∙ sym (anywhere 7 (brokenAt m) refl)
+
+    refuses : {r : Refusal} → r ≡ refusalOf 7 → r .number ≡ 0 → ⊥
+    refuses {r} d z = omega (arith, numbered 7 r d, z)

@@ -6,10 +6,9 @@ use Prim.Native.Nat.{ℕ}
 use lib.Dec.{eqb, ltb}
 use lib.ListN.{length, take}
 use Rattle.seqs.specs.Pick.{pick}
-use Rattle.seqs.specs.Taken.{completed}
 use Rattle.refusal.specs.First.{firstOf}
 use Rattle.message.specs.Frame.{kindOf}
-use Rattle.transcript.specs.Allowance.{letIn}
+use Rattle.transcript.specs.Allowance.{letIn, blocks}
 use Rattle.log.specs.History.History.{accepted}
 use Rattle.log.specs.History.Beside.{told}
 use Rattle.log.specs.Standing.{Standing, Part, historyOf, entered, leftOf}
@@ -41,7 +40,7 @@ gotBy s rest n resumes = begun s rest resumes .got ++ take n rest
 
 -- 'the blocks reported are those the hash definition completes with these bytes'; 'Type 0 takes no blocks'
 unfoldable pub blocksBy : Standing → List ℕ → ℕ → Bool → ℕ
-blocksBy s rest n resumes = pick (eqb (kindOf (gotBy s rest n resumes)) 0) 0 (completed 64 (entered s) (take n rest))
+blocksBy s rest n resumes = pick (eqb (kindOf (gotBy s rest n resumes)) 0) 0 (blocks (entered s) (take n rest))
 
 -- what the log stands for then: where they are the whole rest the message is accepted, told as with its first part
 unfoldable pub takes : Standing → List ℕ → ℕ → Bool → Standing

@@ -1,4 +1,4 @@
--- Document 01's orders written out, and a handshake by its types alone: what the table of turns is held to, and with it every history, both
+-- Document 01's orders written out, and a handshake by its types alone: what the table of turns is held to, and with it every history, the
 -- calls and every run.
 -- Assumes nothing.
 use mathlib.Core.Path.{_≡_}
@@ -84,7 +84,7 @@ pub record Ordered (h : History) : Type 0 where
   -- the session hash: 'in a resumed log, it is 7'
   pub unhashed : inOrder h ≡ true → resumed h ≡ true → sessionNumber (whole h) ≡ 7
 
--- Over both calls, on a history in order. The accepting call takes a well-formed message exactly if its type leads on along an order and is
+-- Over both calls, on a history in order; the call by allowance judges a first part as the accepting one does. The accepting call takes a well-formed message exactly if its type leads on along an order and is
 -- not 20; the joined call takes type 20 exactly if that leads on and the value is the expected one.
 pub record BothCalls (h : History) : Type 0 where
   pub accepts : (m : List ℕ) (resumes : Bool) → shapeNumber m ≡ 0 → (kindOf m ≡ 20 → ⊥)

@@ -26,7 +26,7 @@ abbrev pub between : Standing → Bool
 between (whole h) = false
 between (parted h p) = true
 
--- every byte that was hashed so far, 'the parts of this message included'
+-- every byte that was hashed so far, the parts of this message included
 abbrev pub entered : Standing → List ℕ
 entered (whole h) = hashed h
 entered (parted h p) = hashed h ++ p .got

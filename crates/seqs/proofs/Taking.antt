@@ -1,7 +1,7 @@
 -- More bytes: what waits and the new bytes are one list, whose whole blocks are worked and whose rest waits.
 -- Assumes nothing.
 use mathlib.Core.Path.{_≡_, refl, sym, _∙_, ap, ap₂}
-use mathlib.Core.List.{List, [], _++_, append-nil}
+use mathlib.Core.List.{List, [], _++_, append-nil, append-assoc}
 use Prim.Native.Nat.{ℕ, suc, _+_, _-_, _*_, _/_, _%_, _≤_, _<_}
 use native.Mathlib.Nat.{mul-add, add-zero, div-add-mod, mod-lt, mul-add-div, div-eq-of-lt, mul-add-mod-self-left, mod-eq-of-lt, mul-zero, mul-one, sub-zero, zero-div, zero-mod}
 use native.Mathlib.Numerals.{one-add}
@@ -49,6 +49,12 @@ module _ (size : ℕ) (positive : 0 < size) (m : List ℕ) where
 
     pub completed-blocks : completed size m b ≡ (length m % size + length b) / size
     completed-blocks = omega (arith, whole-behind)
+
+-- blocks that are completed one after the other
+pub completed-append : (size : ℕ) (positive : 0 < size) (m a b : List ℕ) → completed size m a + completed size (m ++ a) b ≡ completed size m (a ++ b)
+completed-append size positive m a b =
+    let e : wholeBlocks size (m ++ (a ++ b)) ≡ wholeBlocks size ((m ++ a) ++ b) = ap (wholeBlocks size) (sym (append-assoc m a b)) in
+    omega (arith, e, whole-behind size positive m a, whole-behind size positive (m ++ a) b)
 
 module _ {S : Type 0} (size : ℕ) (positive : 0 < size) (step : S → List ℕ → S) (initial : S) where
   -- a hash is one value for one message

@@ -8,6 +8,7 @@ use lib.ListN.{length}
 use Rattle.sha256.specs.Sha256.{sha256}
 use Rattle.sha256.specs.Laws.{taken-length}
 use Rattle.sha256.proofs.Further as hash
+use Rattle.transcript.specs.Allowance.{blocks}
 use Rattle.transcript.specs.Carries.{Carries}
 use Rattle.transcript.specs.Promise.{Enters}
 use Rattle.transcript.specs.declared.Transcript.{Transcript}
@@ -19,7 +20,7 @@ pub furtherWorked : Transcript → List ℕ → ℕ
 furtherWorked t b = hash.furtherWorked (t .sha256) b
 
 pub further-enters : (t : Transcript) (b : List ℕ) → Enters t b (further t b) (furtherWorked t b)
-unfolding further furtherWorked
+unfolding further furtherWorked blocks
 further-enters t b =
     let k = hash.further-takes (t .sha256) b in
     record {

@@ -16,7 +16,11 @@ room k m = 64 * (k + 1) - 1 - length m % 64
 unfoldable pub letIn : ℕ → List ℕ → ℕ → ℕ
 letIn k m left = pick (leb left (room k m)) left (room k m)
 
+-- 'the blocks .. the hash definition completes with' b, behind m
+unfoldable pub blocks : List ℕ → List ℕ → ℕ
+blocks m b = completed 64 m b
+
 -- the room is tight: what waits and what there is room for are at most 64(k+1)-1 bytes, which complete at most k blocks, and one byte more
 -- would complete k + 1. The proof is proofs/Room.antt.
 abbrev pub Tight : Type 0
-Tight = (k : ℕ) (m b : List ℕ) → (length b ≤ room k m → completed 64 m b ≤ k) × (length b ≡ room k m + 1 → completed 64 m b ≡ k + 1)
+Tight = (k : ℕ) (m b : List ℕ) → (length b ≤ room k m → blocks m b ≤ k) × (length b ≡ room k m + 1 → blocks m b ≡ k + 1)

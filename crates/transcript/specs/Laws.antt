@@ -1,7 +1,7 @@
 -- Laws: what the parts above may use of an allowance, and do not open it.
 -- Assumes nothing.
 use mathlib.Core.Path.{_≡_, ap}
-use mathlib.Core.List.{List}
+use mathlib.Core.List.{List, _++_}
 use mathlib.Core.Logic.{_⊎_, inl, inr}
 use Prim.Native.Nat.{ℕ, _+_, _-_, _*_, _%_, _≤_, _<_}
 use native.Mathlib.Omega.{arith}
@@ -9,12 +9,13 @@ use borrow.Author.Tests.{leb-true, leb-false, le-leb, lt-leb}
 use lib.Dec.{leb}
 use lib.ListN.{length}
 use Rattle.seqs.specs.Cases.{by-test}
-use Rattle.transcript.specs.Allowance.{room, letIn}
+use Rattle.seqs.proofs.Taking.{completed-append}
+use Rattle.transcript.specs.Allowance.{room, letIn, blocks}
 
--- an allowance of a block or more has room for 64 bytes
-room-some : (k : ℕ) (m : List ℕ) → 1 ≤ k → 64 ≤ room k m
+-- an allowance of k blocks has room for as many bytes as they have
+room-some : (k : ℕ) (m : List ℕ) → 64 * k ≤ room k m
 unfolding room
-room-some k m h = omega arith
+room-some k m = omega arith
 
 -- lists of one length leave the same room
 room-length : (k : ℕ) (m n : List ℕ) → length m ≡ length n → room k m ≡ room k n
@@ -41,11 +42,16 @@ module _ (k : ℕ) (m : List ℕ) (left : ℕ) where
   pub letIn-within : letIn k m left ≤ left
   letIn-within = smaller (λ h e. omega arith) (λ h e. omega arith)
 
-  -- all that is left, or 64 bytes and more: a message that is fed comes to its end
-  pub letIn-some : 1 ≤ k → (letIn k m left ≡ left) ⊎ (64 ≤ letIn k m left)
-  letIn-some o = smaller (λ h e. inl e) (λ h e. inr (omega (arith, room-some k m o)))
+  -- all that is left, or as many bytes as k blocks have: a message that is fed comes to its end
+  pub letIn-blocks : (letIn k m left ≡ left) ⊎ (64 * k ≤ letIn k m left)
+  letIn-blocks = smaller (λ h e. inl e) (λ h e. inr (omega (arith, room-some k m)))
 
 -- lists of one length are let in alike
 pub letIn-length : (k : ℕ) (m n : List ℕ) (left : ℕ) → length m ≡ length n → letIn k m left ≡ letIn k n left
 unfolding letIn
 letIn-length k m n left e = rw (room-length k m n e)
+
+-- blocks that are completed one after the other
+pub blocks-append : (m a b : List ℕ) → blocks m a + blocks (m ++ a) b ≡ blocks m (a ++ b)
+unfolding blocks
+blocks-append m a b = completed-append 64 (omega arith) m a b
