@@ -123,7 +123,7 @@ static void longest(void)
 /* After hellos of a usual length. */
 static void certificate(void)
 {
-    static const size_t allowances[] = {1, 4, 16, AXLE_ALLOWANCE_MOST};
+    static const size_t allowances[] = {1, 4, 16, AXLE_ALLOWANCE_MAX};
     const contestant all[] = {{"single call", at_once}, {"this library", by_parts}};
     const answer to = {&out, offsetof(AxleLog, next) + sizeof out.next}; /* there is padding behind it */
     begun = axle_log_fresh();

@@ -75,7 +75,7 @@ enum {
     AXLE_AXLES = 6,             /* axles are numbered from 1 */
     AXLE_SESSIONS_MAX = 32,     /* sessions in a table */
     AXLE_SESSIONS_AN_AXLE = 8,  /* sessions of one axle */
-    AXLE_ALLOWANCE_MOST = 256   /* hash blocks that axle_log_feed may be allowed a call */
+    AXLE_ALLOWANCE_MAX = 256   /* hash blocks that axle_log_feed may be allowed a call */
 };
 
 /* Overwrites with zeros, and is not optimised away. */

@@ -82,11 +82,11 @@ static void sizes(void)
     bytes[0] = CLIENT_HELLO, bytes[2] = (AXLE_MESSAGE_MAX - 4) >> 8, bytes[3] = (AXLE_MESSAGE_MAX - 4) & 255;
     IS(axle_log_accept(axle_log_fresh(), bytes, AXLE_MESSAGE_MAX, 0).refusal.number == AXLE_DONE);
     IS(axle_log_accept(axle_log_fresh(), bytes, AXLE_MESSAGE_MAX + 1, 0).refusal.number == AXLE_LENGTH);
-    IS(axle_log_feed(axle_log_fresh(), bytes, AXLE_MESSAGE_MAX, AXLE_ALLOWANCE_MOST, 0).taken == AXLE_MESSAGE_MAX);
-    IS(axle_log_feed(axle_log_fresh(), bytes, AXLE_MESSAGE_MAX, AXLE_ALLOWANCE_MOST, 0).blocks == AXLE_ALLOWANCE_MOST);
-    IS(axle_log_feed(axle_log_fresh(), bytes, AXLE_MESSAGE_MAX, AXLE_ALLOWANCE_MOST + 1, 0).refusal.number == AXLE_LENGTH);
+    IS(axle_log_feed(axle_log_fresh(), bytes, AXLE_MESSAGE_MAX, AXLE_ALLOWANCE_MAX, 0).taken == AXLE_MESSAGE_MAX);
+    IS(axle_log_feed(axle_log_fresh(), bytes, AXLE_MESSAGE_MAX, AXLE_ALLOWANCE_MAX, 0).blocks == AXLE_ALLOWANCE_MAX);
+    IS(axle_log_feed(axle_log_fresh(), bytes, AXLE_MESSAGE_MAX, AXLE_ALLOWANCE_MAX + 1, 0).refusal.number == AXLE_LENGTH);
     IS(axle_log_feed(axle_log_fresh(), bytes, AXLE_MESSAGE_MAX, 0, 0).refusal.number == AXLE_LENGTH);
-    IS(axle_log_feed(axle_log_fresh(), bytes, AXLE_MESSAGE_MAX + 1, AXLE_ALLOWANCE_MOST, 0).refusal.number == AXLE_LENGTH);
+    IS(axle_log_feed(axle_log_fresh(), bytes, AXLE_MESSAGE_MAX + 1, AXLE_ALLOWANCE_MAX, 0).refusal.number == AXLE_LENGTH);
     IS(axle_log_finish(axle_log_fresh(), secret, AXLE_SECRET_SIZE, bytes, AXLE_MESSAGE_MAX).refusal.number == AXLE_OUT_OF_TURN);
     IS(axle_log_finish(axle_log_fresh(), secret, AXLE_SECRET_SIZE, bytes, AXLE_MESSAGE_MAX + 1).refusal.number == AXLE_LENGTH);
     IS(axle_log_finish(axle_log_fresh(), bytes, AXLE_SECRET_SIZE + 1, bytes, AXLE_MESSAGE_MAX).refusal.number == AXLE_LENGTH);

@@ -361,10 +361,10 @@ static size_t firsts, middles, lasts, wholes, exchanges;
 /* A message by parts, the first two by this allowance and the others by the most, and every other call between them. */
 static void fed(AxleLog log, const uint8_t *rest, size_t length, size_t allowance)
 {
-    static const size_t wrong[] = {0, AXLE_ALLOWANCE_MOST + 1, (size_t)-1};
+    static const size_t wrong[] = {0, AXLE_ALLOWANCE_MAX + 1, (size_t)-1};
     uint8_t type = rest[0];
     for (size_t part = 0; part == 0 || length > 0; part++) {
-        size_t allowed = part < 2 ? allowance : AXLE_ALLOWANCE_MOST;
+        size_t allowed = part < 2 ? allowance : AXLE_ALLOWANCE_MAX;
         TRY(axle_log_feed, log, rest, length, allowed, part == 0);
         AxleFed answer = axle_log_feed(log, rest, length, allowed, part == 0);
         if (answer.refusal.number != AXLE_DONE)
@@ -406,7 +406,7 @@ static void asked(AxleLog log)
             TRY(axle_log_finish, log, bytes, 48, read, n);
             TRY(axle_log_finish, log, bytes, 47, read, n);
             fed(log, read, n, 1);
-            fed(log, read, n, AXLE_ALLOWANCE_MOST);
+            fed(log, read, n, AXLE_ALLOWANCE_MAX);
         }
     TRY(axle_log_accept, log, read, sizeof read, 0);
     TRY(axle_log_feed, log, read, sizeof read, 1, 0);

@@ -170,7 +170,7 @@ def test_the_c_face_is_the_header_s():
     assert {name: (rust_field.findall(arguments), answer) for name, arguments, answer in called} == calls
     consts = re.findall(r"pub const (\w+): usize = ([\d_]+);", (CRATE / "src/sizes.rs").read_text())
     assert consts == [(name, n) for name, n in consts if NUMBERS[name] == int(n.replace("_", ""))]
-    assert {name for name in NUMBERS if name.endswith(("_MAX", "_MOST", "_SIZE", "AXLES", "AN_AXLE"))} == {name for name, _ in consts}
+    assert {name for name in NUMBERS if name.endswith(("_MAX", "_SIZE", "AXLES", "AN_AXLE"))} == {name for name, _ in consts}
     types = re.findall(r"pub const (\w+): u16 = (\w+);", (CRATE / "src/writing.rs").read_text())
     assert {f"TYPE_{name}": int(n, 0) for name, n in types} == {name: n for name, n in NUMBERS.items() if name.startswith("TYPE_")}
     refusals = re.findall(r"Refusal::(\w+)(?: \{ \.\. \})? => (\d+),", (CRATE / "src/refusal.rs").read_text())

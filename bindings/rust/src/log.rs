@@ -52,7 +52,7 @@ impl Log {
     }
 
     /// Accepts the next message part by part, so that a long one does not keep others waiting: a call works at most `allowance`
-    /// blocks of the hash, 1 to [`ALLOWANCE_MOST`](crate::ALLOWANCE_MOST). `rest` is all of the message that is not yet taken: the
+    /// blocks of the hash, 1 to [`ALLOWANCE_MAX`](crate::ALLOWANCE_MAX). `rest` is all of the message that is not yet taken: the
     /// whole of it first, header included, then what the call before has left. At least 64 bytes are taken, or all that is left; a
     /// HelloRequest is one call and no block. Once all is taken, the log is the one that [`accept`](Log::accept) gives on the bytes
     /// taken:

@@ -27,4 +27,4 @@ pub const SESSIONS_MAX: usize = 32;
 /// The most sessions of one axle.
 pub const SESSIONS_AN_AXLE: usize = 8;
 /// The most hash blocks that a call of [`Log::feed`](crate::Log::feed) may be allowed.
-pub const ALLOWANCE_MOST: usize = 256;
+pub const ALLOWANCE_MAX: usize = 256;

@@ -126,7 +126,7 @@ fn a_message_by_parts() {
     let mut single = before.clone();
     single.accept(&certificate, false).unwrap();
     let whole = session_hash(single);
-    for allowance in (1..=ALLOWANCE_MOST).step_by(5) {
+    for allowance in (1..=ALLOWANCE_MAX).step_by(5) {
         let (mut log, mut rest, mut blocks, mut calls) = (before.clone(), &certificate[..], 0, 0);
         while !rest.is_empty() {
             let fed = log.feed(rest, allowance, true).unwrap();
@@ -136,7 +136,7 @@ fn a_message_by_parts() {
                 break;
             }
             assert_eq!(log.feed(rest, 0, false), Err(Refusal::Length));
-            assert_eq!(log.feed(rest, ALLOWANCE_MOST + 1, false), Err(Refusal::Length));
+            assert_eq!(log.feed(rest, ALLOWANCE_MAX + 1, false), Err(Refusal::Length));
             assert_eq!(log.feed(&rest[1..], allowance, false), Err(Refusal::Length));
             assert_eq!(log.accept(&message(0, b""), false), Err(Refusal::OutOfTurn));
             assert_eq!(log.accept(b"\0\0", false), Err(Refusal::Malformed { place: Some(2) }));

@@ -23,6 +23,7 @@ use Rattle.log.specs.Standing.Standing.{whole, parted}
 use Rattle.log.specs.Calls.{sessionNumber, sessionHashOf, finishedOf}
 use Rattle.log.specs.Stands.{Stands, Placed, number}
 use Rattle.log.specs.Promise.{Hashes}
+use Rattle.log.specs.Parts.{DoneIsWhole}
 use Rattle.log.specs.declared.state.Log.{Log}
 use Rattle.log.specs.declared.answers.SessionHash.{SessionHash}
 use Rattle.log.specs.declared.answers.Finished.{Finished}
@@ -79,15 +80,6 @@ module _ (log : Log) where
       by-sum (inl x) = inl (sym (st .place .number) ∙ x)
       by-sum (inr x) = inr (sym (st .place .number) ∙ x)
 
-  pub done-is-whole : (s : Standing) → Stands log s → complete (historyOf s) ≡ true → between s ≡ false
-  done-is-whole (whole h) st e = refl
-  done-is-whole (parted h p) st e = absurd (done-whole (complete-place e) h p st)
-    where
-      complete-place : complete h ≡ true → (log .place ≡ 13) ⊎ (log .place ≡ 16)
-      complete-place q =
-          let c : (eqb (log .place) 13 || eqb (log .place) 16) ≡ true = complete-by (log .place) h (st .place) ∙ q in
-          by-test (eqb (log .place) 13) (λ a. inl (eqb-true (log .place) 13 a)) (λ a. inr (eqb-true (log .place) 16 (rw a at c)))
-
   completes : (h : History) → Stands log (whole h) → (eqb (log .place) 13 || eqb (log .place) 16) ≡ complete h
   completes h s = complete-by (log .place) h (s .place)
 
@@ -112,3 +104,12 @@ module _ (log : Log) where
   unfolding finishedOf
   finished-not e f (whole h) s = rw (← completes h s, ne-eqb (log .place) 13 e, ne-eqb (log .place) 16 f)
   finished-not e f (parted h p) s = refl
+
+pub done-is-whole : DoneIsWhole
+done-is-whole log (whole h) st e = refl
+done-is-whole log (parted h p) st e = absurd (done-whole log (complete-place e) h p st)
+  where
+    complete-place : complete h ≡ true → (log .place ≡ 13) ⊎ (log .place ≡ 16)
+    complete-place q =
+        let c : (eqb (log .place) 13 || eqb (log .place) 16) ≡ true = complete-by (log .place) h (st .place) ∙ q in
+        by-test (eqb (log .place) 13) (λ a. inl (eqb-true (log .place) 13 a)) (λ a. inr (eqb-true (log .place) 16 (rw a at c)))

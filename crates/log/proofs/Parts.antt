@@ -31,7 +31,7 @@ use Rattle.log.specs.Calls.{brokenAt, acceptNumber, afterAccept, session
 use Rattle.log.specs.Finish.{expectedNumber, expectedOf}
 use Rattle.log.specs.Feed.{badAllowance, begun, feedNumber, lets, gotBy, blocksBy, takes, feedTaken, feedBlocks, afterFeed}
 use Rattle.log.specs.Stands.{Stands}
-use Rattle.log.specs.Parts.{Feeding, Taken, Parts, bytesTaken, blocksWorked, AsOne, PartByPart, Progress, DoneIsWhole, OnlyTheNext}
+use Rattle.log.specs.Parts.{Feeding, Taken, Parts, bytesTaken, blocksWorked, AsOne, PartByPart, Progress, OnlyTheNext}
 use Rattle.log.specs.Parts.Parts.{last, part}
 use Rattle.log.specs.declared.state.Log.{Log}
 use Rattle.log.specs.declared.answers.SessionHash.{SessionHash}
@@ -42,7 +42,6 @@ use Rattle.log.proofs.Heads.{kind-front}
 use Rattle.log.proofs.Accepting.{accept-between}
 use Rattle.log.proofs.Finishing.{finish-between}
 use Rattle.log.proofs.Feeding.{allowance-good}
-use Rattle.log.proofs.Asking.{done-is-whole}
 
 -- a call that is not refused has an allowance
 good : (s : Standing) (rest : List ℕ) (k : ℕ) (resumes : Bool) → feedNumber s rest k resumes ≡ 0 → badAllowance k ≡ false
@@ -180,9 +179,6 @@ part-by-part log log′ h f fs st (part t e r) =
     (ap₂ (λ (x y : ℕ). x + y) (worked log (whole h) f st t ∙ (rw z)) (g .worked) ∙ blocks-append (hashed h) a (bytesTaken fs)))
 
 -- ---- between parts
-
-pub done-whole : DoneIsWhole
-done-whole = done-is-whole
 
 pub only-the-next : OnlyTheNext
 unfolding expectedOf expectedNumber sessionHashOf sessionNumber firstOf

@@ -100,13 +100,13 @@ pub record EntersBy (log : Log) (m : List ℕ) (resumes : Bool) (ks : List ℕ) 
   pub allowances : map (λ (f : Feeding). f .allowance) parts ++ unused ≡ ks
 
 -- The theorem speaks of every list of allowances, and not only of those that happen to have a run: a message that the single call accepts
--- enters by any of them, if they have as many bytes in all as it has.
+-- enters by any of them, if the blocks that they allow have as many bytes in all as the message.
 abbrev pub EveryAllowance : Type 0
 EveryAllowance =
     (log : Log) (h : History) (m : List ℕ) (resumes : Bool) (ks : List ℕ)
     → Stands log (whole h) → acceptNumber (whole h) m resumes ≡ 0 → Allowances ks → length m ≤ 64 * blocksIn ks → EntersBy log m resumes ks
 
--- A log with both Finished taken is never between parts.
+-- A log with both Finished taken is never between parts. The proof is proofs/Asking.antt.
 abbrev pub DoneIsWhole : Type 0
 DoneIsWhole = (log : Log) (s : Standing) → Stands log s → complete (historyOf s) ≡ true → between s ≡ false
 

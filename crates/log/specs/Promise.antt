@@ -1,6 +1,6 @@
--- What the calls promise: of every log that its number is one of the table, that the place is the message's own, that a refused call hands
--- back the very log, and, of the accepting call and the one for a Finished, that a Finished is taken by the latter alone; of a log that stands for something that the answer is the
--- definition's and that the next log stands for what the definition says.
+-- What the calls promise. Of every log: that the number is one of the table, that the place is the message's own, that a refused call hands
+-- back the very log; of the accepting call and the one for a Finished besides that a Finished is taken by the latter alone. Of a log that
+-- stands for something: that the answer is the definition's, and that the next log stands for what the definition says.
 -- Assumes nothing.
 use mathlib.Core.Path.{_≡_}
 use mathlib.Core.Bool.{Bool}

@@ -169,7 +169,7 @@ impl Log {
         }
     }
 
-    // Was a ClientKeyExchange accepted? Between the parts of a message nothing is told.
+    // Was a ClientKeyExchange accepted? Between the parts of a message that is not answered.
     fn exchanged(self) -> bool
         ensures { λ r. ⌜ ((s : Standing) → Stands self s → r ≡ (not (between s) && exchanged (historyOf s))) ⌝ }
     {

@@ -1,9 +1,9 @@
 -- Laws: what the parts above may use of an allowance, and do not open it.
 -- Assumes nothing.
-use mathlib.Core.Path.{_≡_, ap}
+use mathlib.Core.Path.{_≡_}
 use mathlib.Core.List.{List, _++_}
 use mathlib.Core.Logic.{_⊎_, inl, inr}
-use Prim.Native.Nat.{ℕ, _+_, _-_, _*_, _%_, _≤_, _<_}
+use Prim.Native.Nat.{ℕ, _+_, _*_, _≤_, _<_}
 use native.Mathlib.Omega.{arith}
 use borrow.Author.Tests.{leb-true, leb-false, le-leb, lt-leb}
 use lib.Dec.{leb}
@@ -20,7 +20,7 @@ room-some k m = omega arith
 -- lists of one length leave the same room
 room-length : (k : ℕ) (m n : List ℕ) → length m ≡ length n → room k m ≡ room k n
 unfolding room
-room-length k m n e = ap (λ (i : ℕ). 64 * (k + 1) - 1 - i % 64) e
+room-length k m n e = rw e
 
 module _ (k : ℕ) (m : List ℕ) (left : ℕ) where
   -- all that is left, where there is room for it, and else what there is room for

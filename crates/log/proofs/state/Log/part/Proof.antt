@@ -2,6 +2,7 @@
 -- Assumes nothing.
 use mathlib.Core.Path.{sym, _∙_}
 use Prim.Native.Nat.{_≤_}
+use native.Mathlib.Omega.{arith}
 use borrow.Author.Tests.{not-true, not-false}
 use Rattle.log.proofs.Feeding.{allowance-part, first-part, length-part, next-part}
 use borrow.Author.Needs.{needs}
@@ -34,13 +35,13 @@ refuse-requires-2 : tie.Need-refuse-requires-2
 refuse-requires-2 c κs = search needs
 
 returns-3 : tie.Need-returns-3
-returns-3 c = length-part _ _ _ _ (not-true _ (sym (c .before .before .before .before .before .before .allowed .ensures) ∙ not-false _ (c .before .before .before .before .before .if1 .left))) (c .before .before .before .if2 .left) _ (c .refuse2 .ensures) (c .before .if3 .taken)
+returns-3 c = length-part _ _ _ _ (not-true _ (sym (c .before .before .before .before .before .before .allowed .ensures) ∙ not-false _ (c .before .before .before .before .before .if1 .left))) (c .before .before .before .if2 .left) _ (c .refuse2 .ensures) (λ e. omega (arith, c .before .if3 .taken, e))
 
 refuse-requires-3 : tie.Need-refuse-requires-3
 refuse-requires-3 c κs = search needs
 
 returns-4 : tie.Need-returns-4
-returns-4 c = next-part _ _ _ _ (not-true _ (sym (c .before .before .before .before .before .before .allowed .ensures) ∙ not-false _ (c .before .before .before .before .before .if1 .left))) (c .before .before .before .if2 .left) _ (c .refuse3 .ensures) (c .before .if3 .left) (left-fits (c .before .before .before .before .before .before .before .before))
+returns-4 c = next-part _ _ _ _ (not-true _ (sym (c .before .before .before .before .before .before .allowed .ensures) ∙ not-false _ (c .before .before .before .before .before .if1 .left))) (c .before .before .before .if2 .left) _ (c .refuse3 .ensures) (omega (arith, c .before .if3 .left)) (left-fits (c .before .before .before .before .before .before .before .before))
 
 pub part-spec : {M : Type 1} → statement M
 part-spec =

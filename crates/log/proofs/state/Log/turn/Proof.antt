@@ -1,5 +1,6 @@
 -- Each way out is a refusal, or a message that is in turn.
 -- Assumes nothing.
+use native.Mathlib.Omega.{arith}
 use Rattle.log.proofs.Accepting.{shape-turn, between-turn, request-turn, finished-turn, out-turn, other-turn}
 use borrow.Author.Needs.{needs}
 use Rattle.log.proofs.state.Log.turn.Statement.{statement}
@@ -15,7 +16,7 @@ refuse-requires : tie.Need-refuse-requires
 refuse-requires c κs = search needs
 
 returns-2 : tie.Need-returns-2
-returns-2 c = between-turn _ _ _ (c .before .before .before .before .before .before .judge .result) (c .before .before .before .before .before .before .judge .ensures) (c .before .before .before .if1 .left) _ (c .refuse .ensures) (c .before .if2 .taken)
+returns-2 c = between-turn _ _ _ (c .before .before .before .before .before .before .judge .result) (c .before .before .before .before .before .before .judge .ensures) (c .before .before .before .if1 .left) _ (c .refuse .ensures) (λ e. omega (arith, c .before .if2 .taken, e))
 
 returns-3 : tie.Need-returns-3
 returns-3 c = request-turn _ _ _ (c .before .before .before .before .before .before .judge .result) (c .before .before .before .before .before .before .judge .ensures) (c .before .before .before .if1 .left) (c .before .if2 .left) (c .if3 .taken)
