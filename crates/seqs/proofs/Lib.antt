@@ -8,3 +8,6 @@ pub mod Blocks
 pub mod Zeros
 pub mod Taking
 pub mod Ending
+pub mod Rolling
+pub mod Room
+pub mod FirstBlock

@@ -113,6 +113,33 @@ module _ {S : Type 0} (size : ℕ) (positive : 0 < size) (step : S → List ℕ 
       ∙ after-from size step initial k j (m ++ b)
       ∙ ap (λ (x : S). after size step x j (drop (size * k) (m ++ b))) (after-append size step initial k m b d)
 
+  module _ {value : S} {t : List ℕ} {count : ℕ} (m b : List ℕ) (h : Holds size step initial value t count m) where
+    -- by the count that the hash has
+    pub counts-completed : {worked : ℕ} → worked ≡ (count % size + length b) / size → worked ≡ completed size m b
+    counts-completed e = e ∙ ap (λ (i : ℕ). (i % size + length b) / size) (h .counted) ∙ sym (completed-blocks size positive m b)
+
+    pub steps-between : {next : S} {tail : List ℕ} {sum worked : ℕ} → Holds size step initial next tail sum (m ++ b) → worked ≡ completed size m b
+        → next ≡ after size step value worked (drop (size * wholeBlocks size m) (m ++ b))
+    steps-between g e =
+        g .worked
+        ∙ completed-steps m b
+        ∙ ap₂ (λ (v : S) (n : ℕ). after size step v n (drop (size * wholeBlocks size m) (m ++ b))) (sym (h .worked)) (sym e)
+
+    -- for every hash and more bytes there is one that holds them behind whatever was taken before
+    pub holds-further : Holds size step initial
+        (after size step value ((count % size + length b) / size) (take (count % size) t ++ b))
+        (drop (size * ((count % size + length b) / size)) (take (count % size) t ++ b) ++ replicate (size - (count % size + length b) % size) 0)
+        (count + length b)
+        (m ++ b)
+    holds-further =
+        let at = count % size in
+        let sum = at + length b in
+        holds-more m b h at (sum / size) (sum % size) (ap (λ (i : ℕ). i % size) (h .counted)) refl
+        (sym (div-add-mod sum size))
+        (mod-lt sum positive)
+        refl
+        refl
+
   -- the tail is filled up and is the first block; the others lie in the new bytes
   pub first-block : (s first next : S) (t b : List ℕ) (at j : ℕ) → length t ≡ size → at < size → size ≤ at + length b
       → first ≡ step s (take size (paste t at b (size - at)))

@@ -5,7 +5,7 @@ use mathlib.Core.List.{List}
 use Prim.Native.Nat.{ℕ}
 use native.Mathlib.Omega.{arith}
 use Rattle.seqs.proofs.Taking.{one-value}
-use Rattle.sha256.specs.Value.{Value}
+use Rattle.seqs.specs.Sha2.{Value}
 use Rattle.sha256.specs.Layout.{valueOf}
 use Rattle.sha256.specs.Constants.{initial}
 use Rattle.sha256.specs.Compress.{step}

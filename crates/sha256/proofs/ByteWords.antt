@@ -1,35 +1,14 @@
--- A word in its four bytes, a length in its eight, and the words that `load` joins.
+-- A length in its eight bytes, and the words that `load` joins.
 -- Assumes nothing.
 use mathlib.Core.Path.{_≡_, sym, _∙_, ap}
 use mathlib.Core.List.{List, [], _∷_, _++_, append-nil}
-use Prim.Native.Nat.{ℕ, _+_, _*_, _/_, _%_, _^_, _≤_, _<_}
-use native.Mathlib.Nat.{div-one}
+use Prim.Native.Nat.{ℕ, _+_, _*_, _≤_, _<_}
 use native.Mathlib.Omega.{arith}
 use lib.ListN.{length, take, drop, getD, drop-of-length-le}
 use lib.Seq.{sets, sets-eq}
-use Rattle.seqs.specs.Tab.{tab}
 use Rattle.seqs.specs.Blocks.{blockAt}
-use Rattle.seqs.specs.Words.{big, inBytes, ofBytes, bytesOf}
-use Rattle.seqs.proofs.Words.{bytesOf-more, word-in, four-at}
-
-abbrev pub four : ℕ → List ℕ
-four x = x / 2 ^ 24 % 256 ∷ x / 2 ^ 16 % 256 ∷ x / 2 ^ 8 % 256 ∷ x % 256 ∷ []
-
-four-bytes : (x : ℕ) → inBytes big 4 x ≡ four x
-unfolding inBytes tab
-four-bytes x = rw div-one
-
-pub four-more : (w : List ℕ) (t : ℕ) → t < length w → bytesOf big 4 (take (t + 1) w) ≡ bytesOf big 4 (take t w) ++ four (getD w t 0)
-four-more w t h = bytesOf-more big 4 w t h ∙ ap (λ (l : List ℕ). bytesOf big 4 (take t w) ++ l) (four-bytes (getD w t 0))
-
-abbrev pub eight : ℕ → List ℕ
-eight x =
-    x / 2 ^ 56 % 256 ∷ x / 2 ^ 48 % 256 ∷ x / 2 ^ 40 % 256 ∷ x / 2 ^ 32 % 256 ∷ x / 2 ^ 24 % 256
-    ∷ x / 2 ^ 16 % 256 ∷ x / 2 ^ 8 % 256 ∷ x % 256 ∷ []
-
-eight-bytes : (x : ℕ) → inBytes big 8 x ≡ eight x
-unfolding inBytes tab
-eight-bytes x = rw div-one
+use Rattle.seqs.specs.Words.{big, inBytes, ofBytes}
+use Rattle.seqs.proofs.Words.{eight, eight-bytes, word-in, four-at}
 
 -- eight stores behind the first 56 bytes
 pub length-put : (b : List ℕ) (x : ℕ) → length b ≡ 64 → sets b 56 (eight x) ≡ take 56 b ++ inBytes big 8 x

@@ -1,15 +1,14 @@
 -- A hash goes on: for every hash and more bytes there is one that has taken them behind whatever was taken before. And what one hash has taken
 -- has one digest.
 -- Assumes nothing.
-use mathlib.Core.Path.{_≡_, refl, sym, ap}
+use mathlib.Core.Path.{_≡_, refl, ap}
 use mathlib.Core.List.{List, _++_}
 use Prim.Native.Nat.{ℕ, _+_, _-_, _*_, _/_, _%_, _≤_}
-use native.Mathlib.Nat.{div-add-mod, mod-lt}
 use native.Mathlib.Omega.{arith}
 use lib.ListN.{length, take, drop, replicate, length-append}
 use Rattle.seqs.specs.Blocks.{after}
 use Rattle.seqs.specs.Words.{big}
-use Rattle.seqs.proofs.Taking.{holds-more}
+use Rattle.seqs.proofs.Taking.{holds-further}
 use Rattle.seqs.proofs.Ending.{same-end}
 use Rattle.sha256.specs.Layout.{valueOf}
 use Rattle.sha256.specs.Constants.{initial}
@@ -34,15 +33,8 @@ further hash b =
 pub further-runs : (hash : Hash) (b n : List ℕ) → Running hash n → length n + length b ≤ most → Running (further hash b) (n ++ b)
 unfolding further
 further-runs hash b n r l =
-    let at = hash .length % 64 in
-    let sum = at + length b in
     record {
-      holds =
-          holds-more 64 (omega arith) step initial n b (r .holds) at (sum / 64) (sum % 64) (ap (λ (i : ℕ). i % 64) (r .holds .counted)) refl
-          (sym (div-add-mod sum 64))
-          (mod-lt sum (omega arith))
-          refl
-          refl;
+      holds = holds-further 64 (omega arith) step initial n b (r .holds);
       bounded = simp length-append (omega arith);
     }
 

@@ -4,5 +4,4 @@ pub mod Counting
 pub mod Further
 pub mod FirstBlock
 pub mod OneShot
-pub mod Rolling
-pub mod Room
+pub mod Rounds

@@ -2,7 +2,7 @@
 -- Assumes nothing.
 use mathlib.Core.List.{List, [], _∷_}
 use Prim.Native.Nat.{ℕ}
-use Rattle.sha256.specs.Value.{Value}
+use Rattle.seqs.specs.Sha2.{Value}
 
 -- 'a sequence of sixty-four constant 32-bit words' (FIPS 180-4, section 4.2.2)
 unfoldable pub ks : List ℕ

@@ -1,6 +1,6 @@
 -- How the code lays out the eight words.
 -- Assumes nothing.
-use Rattle.sha256.specs.Value.{Value}
+use Rattle.seqs.specs.Sha2.{Value}
 use Rattle.sha256.specs.declared.compress.State.{State}
 
 abbrev pub valueOf : State → Value

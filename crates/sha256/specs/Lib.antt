@@ -1,8 +1,6 @@
 pub mod Functions
-pub mod Value
 pub mod Constants
 pub mod Compress
-pub mod Ring
 pub mod Sha256
 pub mod Layout
 pub mod Running

@@ -7,7 +7,7 @@ use lib.ListN.{length}
 use Rattle.seqs.specs.Blocks.{after}
 use Rattle.seqs.specs.Words.{big}
 use Rattle.seqs.specs.Padding.{pad}
-use Rattle.sha256.specs.Value.{Value}
+use Rattle.seqs.specs.Sha2.{Value}
 use Rattle.sha256.specs.Constants.{initial}
 use Rattle.sha256.specs.Compress.{step, output}
 

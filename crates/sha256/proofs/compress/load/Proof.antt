@@ -7,7 +7,7 @@ use lib.ListN.{take, drop}
 use Rattle.seqs.specs.Tab.{tab}
 use Rattle.seqs.specs.Fill.{Filled, filled-none, filled-more, filled-all}
 use Rattle.seqs.specs.Words.{big, wordsOf}
-use Rattle.sha256.specs.Compress.{schedule}
+use Rattle.seqs.specs.Sha2.{schedule}
 use Rattle.sha256.proofs.ByteWords.{word-at}
 use native.Mathlib.Omega.{arith}
 use borrow.Author.Needs.{needs}

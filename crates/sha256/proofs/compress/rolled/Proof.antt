@@ -2,7 +2,8 @@
 -- Assumes nothing.
 use native.Mathlib.Omega.{arith}
 use Rattle.seqs.specs.Tab.{tab}
-use Rattle.sha256.proofs.Rolling.{spread, onward}
+use Rattle.seqs.proofs.Rolling.{spread, onward}
+use Rattle.sha256.specs.Compress.{parameters}
 use borrow.Author.Needs.{needs}
 use Rattle.sha256.proofs.compress.rolled.Statement.{statement}
 use Rattle.sha256.proofs.compress.rolled.Tie as tie
@@ -194,23 +195,23 @@ returns c block t h w =
     let c3 = c4 .before in
     let c2 = c3 .before in
     let c1 = c2 .before in
-    let r0 = spread w (omega arith) in
-    let r1 = onward 0 h (omega arith) r0 (c1 .next-word .ensures) in
-    let r2 = onward 1 h (omega arith) r1 (c2 .next-word2 .ensures) in
-    let r3 = onward 2 h (omega arith) r2 (c3 .next-word3 .ensures) in
-    let r4 = onward 3 h (omega arith) r3 (c4 .next-word4 .ensures) in
-    let r5 = onward 4 h (omega arith) r4 (c5 .next-word5 .ensures) in
-    let r6 = onward 5 h (omega arith) r5 (c6 .next-word6 .ensures) in
-    let r7 = onward 6 h (omega arith) r6 (c7 .next-word7 .ensures) in
-    let r8 = onward 7 h (omega arith) r7 (c8 .next-word8 .ensures) in
-    let r9 = onward 8 h (omega arith) r8 (c9 .next-word9 .ensures) in
-    let r10 = onward 9 h (omega arith) r9 (c10 .next-word10 .ensures) in
-    let r11 = onward 10 h (omega arith) r10 (c11 .next-word11 .ensures) in
-    let r12 = onward 11 h (omega arith) r11 (c12 .next-word12 .ensures) in
-    let r13 = onward 12 h (omega arith) r12 (c13 .next-word13 .ensures) in
-    let r14 = onward 13 h (omega arith) r13 (c14 .next-word14 .ensures) in
-    let r15 = onward 14 h (omega arith) r14 (c15 .next-word15 .ensures) in
-    let r16 = onward 15 h (omega arith) r15 (c16 .next-word16 .ensures) in
+    let r0 = spread parameters w (omega arith) in
+    let r1 = onward parameters t 0 h (omega arith) r0 (c1 .next-word .ensures) in
+    let r2 = onward parameters t 1 h (omega arith) r1 (c2 .next-word2 .ensures) in
+    let r3 = onward parameters t 2 h (omega arith) r2 (c3 .next-word3 .ensures) in
+    let r4 = onward parameters t 3 h (omega arith) r3 (c4 .next-word4 .ensures) in
+    let r5 = onward parameters t 4 h (omega arith) r4 (c5 .next-word5 .ensures) in
+    let r6 = onward parameters t 5 h (omega arith) r5 (c6 .next-word6 .ensures) in
+    let r7 = onward parameters t 6 h (omega arith) r6 (c7 .next-word7 .ensures) in
+    let r8 = onward parameters t 7 h (omega arith) r7 (c8 .next-word8 .ensures) in
+    let r9 = onward parameters t 8 h (omega arith) r8 (c9 .next-word9 .ensures) in
+    let r10 = onward parameters t 9 h (omega arith) r9 (c10 .next-word10 .ensures) in
+    let r11 = onward parameters t 10 h (omega arith) r10 (c11 .next-word11 .ensures) in
+    let r12 = onward parameters t 11 h (omega arith) r11 (c12 .next-word12 .ensures) in
+    let r13 = onward parameters t 12 h (omega arith) r12 (c13 .next-word13 .ensures) in
+    let r14 = onward parameters t 13 h (omega arith) r13 (c14 .next-word14 .ensures) in
+    let r15 = onward parameters t 14 h (omega arith) r14 (c15 .next-word15 .ensures) in
+    let r16 = onward parameters t 15 h (omega arith) r15 (c16 .next-word16 .ensures) in
     r16
 
 pub rolled-spec : {M : Type 1} → statement M

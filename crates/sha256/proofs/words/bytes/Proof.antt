@@ -7,9 +7,9 @@ use native.Mathlib.Omega.{arith}
 use borrow.Author.Needs.{needs}
 use lib.ListN.{length, take, getD}
 use lib.Seq.{take-all}
-use Rattle.sha256.proofs.ByteWords.{four-more, four}
 use Rattle.seqs.specs.Fill.{Filled, filled-none, filled-run, filled-all}
 use Rattle.seqs.specs.Words.{big, bytesOf}
+use Rattle.seqs.proofs.Words.{four, four-more}
 use Rattle.sha256.proofs.words.bytes.Statement.{statement}
 use Rattle.sha256.proofs.words.bytes.Tie as tie
 

@@ -1,6 +1,6 @@
 -- `sha256::words::next_word` is what its document says, from what the calls ensure.
 -- Assumes nothing.
-use Rattle.sha256.specs.Compress.{next}
+use Rattle.seqs.specs.Sha2.{next}
 use borrow.Author.Needs.{needs}
 use Rattle.sha256.proofs.words.next_word.Statement.{statement}
 use Rattle.sha256.proofs.words.next_word.Tie as tie

@@ -5,9 +5,9 @@ use mathlib.Core.Logic.{⊎-elim}
 use mathlib.Core.List.{List}
 use Prim.Native.Nat.{ℕ, _+_, _-_, _*_, _≤_}
 use Rattle.sha256.specs.Layout.{valueOf}
-use Rattle.sha256.specs.Compress.{schedule, rounds}
-use Rattle.sha256.specs.Ring.{Ring}
-use Rattle.sha256.proofs.Rolling.{rounds-none}
+use Rattle.sha256.specs.Compress.{parameters, schedule, rounds}
+use Rattle.sha256.specs.Compress.{Ring}
+use Rattle.seqs.proofs.Rolling.{rounds-none}
 use native.Mathlib.Omega.{arith}
 use borrow.Author.Needs.{needs}
 use Rattle.sha256.proofs.compress.State.all_rounds.Statement.{statement}
@@ -21,7 +21,7 @@ abbrev μ-loop : tie.MeasureT-loop
 μ-loop w₀ v₀ turn₀ w v turn = 4 - turn
 
 loop-holds : tie.Need-loop-holds Inv-loop μ-loop
-loop-holds c = (omega arith, λ b r. (λ h. r, rounds-none _ _))
+loop-holds c = (omega arith, λ b r. (λ h. r, rounds-none parameters _ _))
 
 sixteen-rounds-requires : tie.Need-sixteen-rounds-requires Inv-loop μ-loop
 sixteen-rounds-requires c κs = search needs

@@ -5,9 +5,10 @@ use mathlib.Core.List.{List}
 use Prim.Native.Nat.{ℕ}
 use lib.ListN.{take, drop}
 use Rattle.sha256.specs.Layout.{valueOf}
-use Rattle.sha256.specs.Compress.{step, plus, schedule, rounds}
-use Rattle.sha256.specs.Ring.{Ring}
-use Rattle.sha256.proofs.Rolling.{begins, summed}
+use Rattle.sha256.specs.Compress.{parameters, schedule, rounds}
+use Rattle.seqs.specs.Sha2.{step, plus}
+use Rattle.sha256.specs.Compress.{Ring}
+use Rattle.seqs.proofs.Rolling.{begins, summed}
 use borrow.Author.Needs.{needs}
 use Rattle.sha256.proofs.compress.State.compress.Statement.{statement}
 use Rattle.sha256.proofs.compress.State.compress.Tie as tie
@@ -47,7 +48,7 @@ unfolding step
 returns c =
     let d = c .before .before .before .before .before .before .before .before in
     let b = take 64 (drop (d .before .before .before .args .at) (d .before .before .before .args .b .now)) in
-    let r : valueOf (d .all-rounds .result) ≡ rounds 64 (valueOf (d .before .before .before .args .self)) (schedule 48 b) = d .all-rounds .ensures b (subst (λ (w : List ℕ). Ring w b 0) (sym (d .before .load .ensures)) (begins b)) in
+    let r : valueOf (d .all-rounds .result) ≡ rounds 64 (valueOf (d .before .before .before .args .self)) (schedule 48 b) = d .all-rounds .ensures b (subst (λ (w : List ℕ). Ring w b 0) (sym (d .before .load .ensures)) (begins parameters b)) in
     let b8 = c in
     let b7 = b8 .before in
     let b6 = b7 .before in
@@ -56,8 +57,8 @@ returns c =
     let b3 = b4 .before in
     let b2 = b3 .before in
     let b1 = b2 .before in
-    summed (valueOf (d .before .before .before .args .self)) (valueOf (d .all-rounds .result)) (b1 .add .ensures) (b2 .add2 .ensures) (b3 .add3 .ensures) (b4 .add4 .ensures) (b5 .add5 .ensures) (b6 .add6 .ensures) (b7 .add7 .ensures) (b8 .add8 .ensures)
-    ∙ ap (plus (valueOf (d .before .before .before .args .self))) r
+    summed parameters (valueOf (d .before .before .before .args .self)) (valueOf (d .all-rounds .result)) (b1 .add .ensures) (b2 .add2 .ensures) (b3 .add3 .ensures) (b4 .add4 .ensures) (b5 .add5 .ensures) (b6 .add6 .ensures) (b7 .add7 .ensures) (b8 .add8 .ensures)
+    ∙ ap (plus parameters (valueOf (d .before .before .before .args .self))) r
 
 pub compress-spec : {M : Type 1} → statement M
 compress-spec =

@@ -1,6 +1,6 @@
 -- One round, from what the calls ensure.
 -- Assumes nothing.
-use Rattle.sha256.specs.Compress.{roundOf}
+use Rattle.seqs.specs.Sha2.{roundOf}
 use borrow.Author.Needs.{needs}
 use Rattle.sha256.proofs.compress.State.round.Statement.{statement}
 use Rattle.sha256.proofs.compress.State.round.Tie as tie

@@ -1,11 +1,11 @@
 -- Each round of a turn finds its word in the ring and its constant among the turn's.
 -- Assumes nothing.
-use mathlib.Core.Path.{_≡_, _∙_, ap}
-use Prim.Native.Nat.{ℕ, _+_, _*_}
+use mathlib.Core.Path.{_≡_, refl, _∙_, ap}
+use Prim.Native.Nat.{ℕ, _+_, _*_, _≤_}
 use native.Mathlib.Omega.{arith}
 use Rattle.sha256.specs.Layout.{valueOf}
-use Rattle.sha256.specs.Compress.{schedule, rounds}
-use Rattle.sha256.proofs.Rolling.{round-more}
+use Rattle.sha256.specs.Compress.{parameters, schedule, rounds}
+use Rattle.seqs.proofs.Rolling.{round-more}
 use borrow.Author.Needs.{needs}
 use Rattle.sha256.proofs.compress.State.sixteen_rounds.Statement.{statement}
 use Rattle.sha256.proofs.compress.State.sixteen_rounds.Tie as tie
@@ -178,26 +178,26 @@ returns c s block ring h =
     let c0 = c1 .before in
     let turn = c0 .before .args .turn in
     let t = 16 * turn in
-    let four = c0 .before .pre in
+    let four : 16 * turn ≤ 48 = omega (arith, c0 .before .pre) in
     let k = c0 .constants .ensures in
     let z : t ≡ t + 0 = omega arith in
     let v0 : valueOf (c0 .before .args .self) ≡ rounds (t + 0) s (schedule 48 block) = h ∙ ap (λ (i : ℕ). rounds i s (schedule 48 block)) z in
-    let v1 = round-more s turn 0 four (omega arith) ring k v0 (c1 .round .ensures) in
-    let v2 = round-more s turn 1 four (omega arith) ring k v1 (c2 .round2 .ensures) in
-    let v3 = round-more s turn 2 four (omega arith) ring k v2 (c3 .round3 .ensures) in
-    let v4 = round-more s turn 3 four (omega arith) ring k v3 (c4 .round4 .ensures) in
-    let v5 = round-more s turn 4 four (omega arith) ring k v4 (c5 .round5 .ensures) in
-    let v6 = round-more s turn 5 four (omega arith) ring k v5 (c6 .round6 .ensures) in
-    let v7 = round-more s turn 6 four (omega arith) ring k v6 (c7 .round7 .ensures) in
-    let v8 = round-more s turn 7 four (omega arith) ring k v7 (c8 .round8 .ensures) in
-    let v9 = round-more s turn 8 four (omega arith) ring k v8 (c9 .round9 .ensures) in
-    let v10 = round-more s turn 9 four (omega arith) ring k v9 (c10 .round10 .ensures) in
-    let v11 = round-more s turn 10 four (omega arith) ring k v10 (c11 .round11 .ensures) in
-    let v12 = round-more s turn 11 four (omega arith) ring k v11 (c12 .round12 .ensures) in
-    let v13 = round-more s turn 12 four (omega arith) ring k v12 (c13 .round13 .ensures) in
-    let v14 = round-more s turn 13 four (omega arith) ring k v13 (c14 .round14 .ensures) in
-    let v15 = round-more s turn 14 four (omega arith) ring k v14 (c15 .round15 .ensures) in
-    let v16 = round-more s turn 15 four (omega arith) ring k v15 (c16 .round16 .ensures) in
+    let v1 = round-more parameters s turn 0 16 t 0 four (omega arith) (omega arith) refl ring k v0 (c1 .round .ensures) in
+    let v2 = round-more parameters s turn 1 16 t 1 four (omega arith) (omega arith) refl ring k v1 (c2 .round2 .ensures) in
+    let v3 = round-more parameters s turn 2 16 t 2 four (omega arith) (omega arith) refl ring k v2 (c3 .round3 .ensures) in
+    let v4 = round-more parameters s turn 3 16 t 3 four (omega arith) (omega arith) refl ring k v3 (c4 .round4 .ensures) in
+    let v5 = round-more parameters s turn 4 16 t 4 four (omega arith) (omega arith) refl ring k v4 (c5 .round5 .ensures) in
+    let v6 = round-more parameters s turn 5 16 t 5 four (omega arith) (omega arith) refl ring k v5 (c6 .round6 .ensures) in
+    let v7 = round-more parameters s turn 6 16 t 6 four (omega arith) (omega arith) refl ring k v6 (c7 .round7 .ensures) in
+    let v8 = round-more parameters s turn 7 16 t 7 four (omega arith) (omega arith) refl ring k v7 (c8 .round8 .ensures) in
+    let v9 = round-more parameters s turn 8 16 t 8 four (omega arith) (omega arith) refl ring k v8 (c9 .round9 .ensures) in
+    let v10 = round-more parameters s turn 9 16 t 9 four (omega arith) (omega arith) refl ring k v9 (c10 .round10 .ensures) in
+    let v11 = round-more parameters s turn 10 16 t 10 four (omega arith) (omega arith) refl ring k v10 (c11 .round11 .ensures) in
+    let v12 = round-more parameters s turn 11 16 t 11 four (omega arith) (omega arith) refl ring k v11 (c12 .round12 .ensures) in
+    let v13 = round-more parameters s turn 12 16 t 12 four (omega arith) (omega arith) refl ring k v12 (c13 .round13 .ensures) in
+    let v14 = round-more parameters s turn 13 16 t 13 four (omega arith) (omega arith) refl ring k v13 (c14 .round14 .ensures) in
+    let v15 = round-more parameters s turn 14 16 t 14 four (omega arith) (omega arith) refl ring k v14 (c15 .round15 .ensures) in
+    let v16 = round-more parameters s turn 15 16 t 15 four (omega arith) (omega arith) refl ring k v15 (c16 .round16 .ensures) in
     v16
 
 pub sixteen-rounds-spec : {M : Type 1} → statement M

@@ -10,7 +10,7 @@ use lib.Seq.{take-all, length-take-le}
 use Rattle.seqs.specs.Words.{big, inBytes}
 use Rattle.seqs.proofs.Words.{length-inBytes}
 use Rattle.seqs.proofs.Ending.{length-sealed, finished-one, finished-two}
-use Rattle.sha256.specs.Value.{Value}
+use Rattle.seqs.specs.Sha2.{Value}
 use Rattle.sha256.specs.Layout.{valueOf}
 use Rattle.sha256.specs.Constants.{initial}
 use Rattle.sha256.specs.Compress.{step, output}

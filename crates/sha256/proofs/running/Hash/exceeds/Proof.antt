@@ -5,7 +5,7 @@ use Prim.Native.Nat.{_+_, _≤_}
 use native.Mathlib.Omega.{arith}
 use borrow.Author.Tests.{lt-ltb}
 use Rattle.sha256.specs.Running.{taken, most}
-use Rattle.sha256.proofs.Room.{room}
+use Rattle.seqs.proofs.Room.{room}
 use Rattle.sha256.proofs.running.Hash.exceeds.Statement.{statement}
 use Rattle.sha256.proofs.running.Hash.exceeds.Tie as tie
 
@@ -19,7 +19,7 @@ returns-2 c =
     let s = c .before .before .before .args .self .length in
     let n = c .before .before .before .args .n in
     let w : s ≤ most = omega arith in
-    room s n w
+    room most s n w
 
 pub exceeds-spec : {M : Type 1} → statement M
 exceeds-spec = tie.close (tie.spec returns returns-2)

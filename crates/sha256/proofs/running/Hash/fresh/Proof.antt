@@ -6,7 +6,7 @@ use native.Mathlib.Omega.{arith}
 use lib.ListN.{replicate}
 use Rattle.seqs.specs.Taken.{Holds}
 use Rattle.seqs.proofs.Taking.{holds-none}
-use Rattle.sha256.specs.Value.{Value}
+use Rattle.seqs.specs.Sha2.{Value}
 use Rattle.sha256.specs.Constants.{initial}
 use Rattle.sha256.specs.Compress.{step}
 use borrow.Author.Needs.{needs}

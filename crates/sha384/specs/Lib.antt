@@ -1,0 +1,9 @@
+pub mod Functions
+pub mod Constants
+pub mod Compress
+pub mod Sha384
+pub mod Layout
+pub mod Running
+pub mod Begins
+pub mod Promise
+pub mod Laws
