@@ -22,6 +22,8 @@ HEADER = ROOT / "include/axle_gateway.h"
 OURS, BEARSSL, MBEDTLS, BEFORE = "this library", "BearSSL", "mbedTLS", "before"
 OPENSSL, MASKED = "OpenSSL, SHA instructions", "OpenSSL, no SHA instructions"
 LENGTHS = {"64": "64 B", "1024": "1 KiB", "16384": "16 KiB"}
+LENGTHS_384 = {"64": "64 B", "128": "128 B", "1024": "1 KiB", "16384": "16 KiB"}
+SECRET, SECRET_384 = "extended master secret", "extended master secret, SHA-384"
 LIBRARIES = [OURS, BEARSSL, OPENSSL, MASKED, MBEDTLS, BEFORE]
 READERS = [OURS, "tls-parser", "rustls", BEFORE]
 WRITERS = [*READERS[:-1], "by hand", BEFORE]
@@ -112,15 +114,17 @@ def machine(figures):
         f"{figures.number} runs on {said['date']}: {said['processor']}, {said['cores']} cores, {said['memory']}, load {said['load']}"
         f" when they began and {said['load at the end']} when they ended (the bench itself makes 1); {said['system']}, gcc {said['gcc']},"
         f" rustc {said['rustc']}. This library is that of commit {said['commit']}. The others are Debian's packages: {libraries}.",
-        f"SHA instructions (`sha256rnds2`) stand in the code of {having}; in that of {lacking} there are none. This processor"
-        f" {where if uses else 'has none, so no row uses them'}.",
+        f"SHA instructions (`sha256rnds2`, for SHA-256 alone) stand in the code of {having}; in that of {lacking} there are none. This"
+        f" processor {where if uses else 'has none, so no row uses them'}.",
     ]
     return "\n\n".join(textwrap.fill(paragraph, 135, break_on_hyphens=False, break_long_words=False) for paragraph in paragraphs)
 
 
 def work(figures):
     rows = [(f"SHA-256 of {words}", "SHA-256", size) for size, words in LENGTHS.items()]
-    rows += [("HMAC-SHA-256 of 64 B", "HMAC-SHA-256", "64"), ("extended master secret", "extended master secret", "")]
+    rows += [("HMAC-SHA-256 of 64 B", "HMAC-SHA-256", "64"), ("extended master secret, SHA-256", SECRET, "")]
+    rows += [(f"SHA-384 of {words}", "SHA-384", size) for size, words in LENGTHS_384.items()]
+    rows += [("HMAC-SHA-384 of 64 B", "HMAC-SHA-384", "64"), (SECRET_384, SECRET_384, "")]
     return contest(figures, "work", rows, LIBRARIES)
 
 
@@ -154,8 +158,10 @@ def left(figures):
 
 def aims(figures):
     fast = [("SHA-256", size, f"SHA-256 of {words}", 1.05) for size, words in LENGTHS.items()]
+    fast += [("SHA-384", "128", "SHA-384 of 128 B", 1.0), ("SHA-384", "16384", "SHA-384 of 16 KiB", 1.05)]
+    fast += [(SECRET, "", "extended master secret, SHA-256", 1.05), (SECRET_384, "", SECRET_384, 1.05)]
     rows = []
-    for of, size, words, least in [*fast, ("extended master secret", "", "extended master secret", 1.0)]:
+    for of, size, words, least in fast:
         met = sum(pair[1] >= least for pair in figures.runs[of, size, BEARSSL])
         aim = f"{words}: BearSSL takes {least:.2f} of our time or more"
         rows.append([aim, share(figures.spread(of, size, BEARSSL, True)), f"{met} of {figures.number}"])
@@ -174,20 +180,31 @@ def by_length(figures):
 
 
 def by_message(figures):
-    return growth(figures, "bytes", "feeding a log", LIBRARIES)
+    """A message that a log accepts: with both hashes, and with the one that was chosen; each beside an earlier build, where it has that."""
+    works = {"both hashes": "a log before the choice", "SHA-256": "a log with SHA-256", "SHA-384": "a log with SHA-384"}
+    sizes = figures.sizes(works["both hashes"])
+    head, rows = ["bytes"], [[f"{int(size):,}"] for size in sizes]
+    for words, work in works.items():
+        earlier = figures.spread(work, sizes[0], BEFORE) is not None
+        head += [words, BEFORE] if earlier else [words]
+        for row, size in zip(rows, sizes):
+            row.append(time(figures.spread(work, size, OURS)))
+            row += [share(figures.spread(work, size, BEFORE, True))] if earlier else []
+    return table(head, rows)
 
 
 def by_parts(figures):
-    """A message that enters the log by parts, beside the single call."""
-    work = "a Certificate by parts"
+    """A message that enters the log by parts, beside the single call, with either hash."""
     rows = []
-    for size in figures.sizes(work):
-        calls = figures.spread("parts of a Certificate", size, OURS)[0]
-        longest, all_calls = (time(figures.spread(name, size, OURS)) for name in ("the longest part", work))
-        rows.append([size, f"{calls:.0f}", longest, all_calls, share(figures.spread(work, size, OURS, True))])
-    single = time(figures.spread(work, rows[-1][0], "single call"))
-    rows.append(["single call", "1", single, single, ""])
-    return table(["allowance, blocks", "calls", "the longest call", "all calls", "all calls over the single call"], rows)
+    for name in ("SHA-256", "SHA-384"):
+        work = f"a Certificate by parts, {name}"
+        for size in figures.sizes(work):
+            calls = figures.spread(f"parts of a Certificate, {name}", size, OURS)[0]
+            longest, all_calls = (time(figures.spread(of, size, OURS)) for of in (f"the longest part, {name}", work))
+            rows.append([name, size, f"{calls:.0f}", longest, all_calls, share(figures.spread(work, size, OURS, True))])
+        single = time(figures.spread(work, rows[-1][1], "single call"))
+        rows.append([name, "single call", "1", single, single, ""])
+    return table(["hash", "allowance, blocks", "calls", "the longest call", "all calls", "all calls over the single call"], rows)
 
 
 def by_sessions(figures):

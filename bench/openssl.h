@@ -1,5 +1,5 @@
-/* What OpenSSL is called in the figures: whether it uses the processor's SHA instructions here. It does so for every length
- * where the processor has them and OPENSSL_ia32cap does not mask them. */
+/* What OpenSSL is called in the figures: whether it uses the processor's SHA instructions here. For SHA-256 it does so for every
+ * length where the processor has them and OPENSSL_ia32cap does not mask them; for SHA-384 it knows of none. */
 #ifndef BENCH_OPENSSL_H
 #define BENCH_OPENSSL_H
 
@@ -7,6 +7,8 @@
 #include <stdio.h>
 #include <stdlib.h>
 #include <string.h>
+
+#define OPENSSL_WITHOUT "OpenSSL, no SHA instructions"
 
 static const char *openssl_name(void)
 {
@@ -16,7 +18,7 @@ static const char *openssl_name(void)
         fprintf(stderr, "bench: OpenSSL does not say which instructions it uses\n");
         exit(1);
     }
-    return strtoull(second + 1, NULL, 16) >> 29 & 1 ? "OpenSSL, SHA instructions" : "OpenSSL, no SHA instructions";
+    return strtoull(second + 1, NULL, 16) >> 29 & 1 ? "OpenSSL, SHA instructions" : OPENSSL_WITHOUT;
 }
 
 #endif

@@ -6,6 +6,7 @@
 #include <bearssl.h>
 #include <mbedtls/md.h>
 #include <mbedtls/sha256.h>
+#include <mbedtls/sha512.h>
 #include <mbedtls/ssl.h>
 #include <mbedtls/ssl_cache.h>
 #include <stdint.h>
@@ -20,14 +21,15 @@
         printf("%s\t%s\t%s\t%zu\n", our_call, who, #call, depth_);          \
     } while (0)
 
-static uint8_t input[1000], digest[32], secret[48];
+static uint8_t input[1000], digest[64], secret[48];
 
 static void bearssl(void)
 {
     static br_sha256_context hash;
+    static br_sha384_context hash384;
     static br_hmac_key_context keyed;
     static br_hmac_context hmac;
-    static const br_tls_prf_seed_chunk seed = {input, 32}, randoms = {input, 64};
+    static const br_tls_prf_seed_chunk seed = {input, 32}, seed384 = {input, 48}, randoms = {input, 64};
     ROW("axle_hash_fresh", "BearSSL", br_sha256_init, &hash);
     br_sha256_update(&hash, input, 10);
     ROW("axle_hash_absorb", "BearSSL", br_sha256_update, &hash, input, sizeof input);
@@ -38,15 +40,30 @@ static void bearssl(void)
     ROW("axle_hmac", "BearSSL", br_hmac_init, &hmac, &keyed, 0);
     ROW("axle_hmac", "BearSSL", br_hmac_update, &hmac, input, sizeof input);
     ROW("axle_hmac", "BearSSL", br_hmac_out, &hmac, digest);
+    ROW("axle_hash384_fresh", "BearSSL", br_sha384_init, &hash384);
+    br_sha384_update(&hash384, input, 10);
+    ROW("axle_hash384_absorb", "BearSSL", br_sha384_update, &hash384, input, sizeof input);
+    br_sha384_init(&hash384);
+    br_sha384_update(&hash384, input, 120);
+    ROW("axle_hash384_digest", "BearSSL", br_sha384_out, &hash384, digest);
+    ROW("axle_hmac_sha384", "BearSSL", br_hmac_key_init, &keyed, &br_sha384_vtable, input, sizeof input);
+    ROW("axle_hmac_sha384", "BearSSL", br_hmac_init, &hmac, &keyed, 0);
+    ROW("axle_hmac_sha384", "BearSSL", br_hmac_update, &hmac, input, sizeof input);
+    ROW("axle_hmac_sha384", "BearSSL", br_hmac_out, &hmac, digest);
     ROW("axle_extended_master_secret", "BearSSL", br_tls12_sha256_prf, secret, sizeof secret, input, 48, "extended master secret", 1,
         &seed);
+    ROW("axle_extended_master_secret", "BearSSL", br_tls12_sha384_prf, secret, sizeof secret, input, 48, "extended master secret", 1,
+        &seed384);
     ROW("axle_master_secret", "BearSSL", br_tls12_sha256_prf, secret, sizeof secret, input, 48, "master secret", 1, &randoms);
+    ROW("axle_master_secret", "BearSSL", br_tls12_sha384_prf, secret, sizeof secret, input, 48, "master secret", 1, &randoms);
 }
 
 static void mbedtls(void)
 {
     static mbedtls_sha256_context hash;
+    static mbedtls_sha512_context hash384;
     const mbedtls_md_info_t *sha256 = mbedtls_md_info_from_type(MBEDTLS_MD_SHA256);
+    const mbedtls_md_info_t *sha384 = mbedtls_md_info_from_type(MBEDTLS_MD_SHA384);
     mbedtls_sha256_init(&hash);
     ROW("axle_hash_fresh", "mbedTLS", mbedtls_sha256_starts_ret, &hash, 0);
     mbedtls_sha256_update_ret(&hash, input, 10);
@@ -56,9 +73,22 @@ static void mbedtls(void)
     ROW("axle_hash_digest", "mbedTLS", mbedtls_sha256_finish_ret, &hash, digest);
     ROW("axle_sha256", "mbedTLS", mbedtls_sha256_ret, input, sizeof input, digest, 0);
     ROW("axle_hmac", "mbedTLS", mbedtls_md_hmac, sha256, input, sizeof input, input, sizeof input, digest);
+    mbedtls_sha512_init(&hash384);
+    ROW("axle_hash384_fresh", "mbedTLS", mbedtls_sha512_starts_ret, &hash384, 1);
+    mbedtls_sha512_update_ret(&hash384, input, 10);
+    ROW("axle_hash384_absorb", "mbedTLS", mbedtls_sha512_update_ret, &hash384, input, sizeof input);
+    mbedtls_sha512_starts_ret(&hash384, 1);
+    mbedtls_sha512_update_ret(&hash384, input, 120);
+    ROW("axle_hash384_digest", "mbedTLS", mbedtls_sha512_finish_ret, &hash384, digest);
+    ROW("axle_sha384", "mbedTLS", mbedtls_sha512_ret, input, sizeof input, digest, 1);
+    ROW("axle_hmac_sha384", "mbedTLS", mbedtls_md_hmac, sha384, input, sizeof input, input, sizeof input, digest);
     ROW("axle_extended_master_secret", "mbedTLS", mbedtls_ssl_tls_prf, MBEDTLS_SSL_TLS_PRF_SHA256, input, 48, "extended master secret",
         input, 32, secret, sizeof secret);
+    ROW("axle_extended_master_secret", "mbedTLS", mbedtls_ssl_tls_prf, MBEDTLS_SSL_TLS_PRF_SHA384, input, 48, "extended master secret",
+        input, 48, secret, sizeof secret);
     ROW("axle_master_secret", "mbedTLS", mbedtls_ssl_tls_prf, MBEDTLS_SSL_TLS_PRF_SHA256, input, 48, "master secret", input, 64,
+        secret, sizeof secret);
+    ROW("axle_master_secret", "mbedTLS", mbedtls_ssl_tls_prf, MBEDTLS_SSL_TLS_PRF_SHA384, input, 48, "master secret", input, 64,
         secret, sizeof secret);
 }
 

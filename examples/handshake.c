@@ -9,6 +9,7 @@
 enum { AXLE = 3, VERSION = 0x0303, SUITE = 0x003b, CERTIFICATE = 11, HELLO_DONE = 14, KEY_EXCHANGE = 16, FINISHED = 20 };
 
 static const uint8_t pre_master[48] = {3, 3, 42};
+static const uint8_t sha384 = 0; /* the PRF of SUITE is over SHA-256 */
 static const AxleSwitches strict = {1, 0, 0};
 
 /* Every call answers a number; in this example each must be 0. */
@@ -76,17 +77,20 @@ static size_t server_hello(uint8_t *out, size_t room, const uint8_t *identifier,
     return written.length;
 }
 
+/* What is told counts with a ServerHello alone. */
 static void accept(AxleLog *log, const uint8_t *bytes, size_t length, uint8_t resumes)
 {
-    done(axle_log_accept_in(log, bytes, length, resumes), "a message");
+    const AxleTold told = {resumes, sha384};
+    done(axle_log_accept_in(log, bytes, length, told), "a message");
 }
 
 /* A long message by parts, of 16 hash blocks at most: what else waits has its turn between them. */
 static void feed(AxleLog *log, const uint8_t *rest, size_t length)
 {
+    const AxleTold nothing = {0, 0};
     while (length > 0) {
         size_t taken;
-        done(axle_log_feed_in(log, rest, length, 16, 0, &taken, NULL), "a part of a message");
+        done(axle_log_feed_in(log, rest, length, 16, nothing, &taken, NULL), "a part of a message");
         rest += taken, length -= taken;
     }
 }
@@ -147,7 +151,7 @@ int main(void)
         accept(&log, bytes, message(bytes, between[i], bytes, 0), 0);
     AxleSessionHash session = axle_log_session_hash(log);
     done(session.refusal, "the session hash");
-    done(axle_extended_master_secret(pre_master, sizeof pre_master, session.hash, sizeof session.hash, secret, sizeof secret),
+    done(axle_extended_master_secret(sha384, pre_master, sizeof pre_master, session.hash, session.length, secret, sizeof secret),
          "the secret");
     finish(&log, secret);
     done(axle_complete(&connection, log, decision), "completion");

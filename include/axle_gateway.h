@@ -13,9 +13,9 @@
  *
  * Flags are bytes: 0 is no, anything else is yes; a flag in an answer is 0 or 1.
  *
- * Structs. What is inside AxleHash, AxleTable and AxleLog is not for callers: copy them, keep them, hand them in. No whole
- * struct is for sending, storing or comparing by memcmp: the padding between fields may hold older bytes of the caller's
- * stack, secrets among them, and a layout may change with the version. Fields are.
+ * Structs. What is inside AxleHash, AxleHash384, AxleTable and AxleLog is not for callers: copy them, keep them, hand them in.
+ * No whole struct is for sending, storing or comparing by memcmp: the padding between fields may hold older bytes of the
+ * caller's stack, secrets among them, and a layout may change with the version. Fields are.
  *
  * Threads. Nothing is shared between calls, so any number of threads may call at once, each on values of its own. A value
  * that two threads use (a state kept in place, a record, an output) wants the caller's lock, as any variable does.
@@ -24,8 +24,8 @@
  * withdrawn, replaced, pushed out or cleared, the table that is handed back holds no byte. The library wipes nothing else: the
  * table that was passed still has that session. When done with them, a caller overwrites (axle_wipe): every AxleTable, older
  * copies too, and every answer with one in it; the secret that a look-up or a master secret call wrote to `out`; pre-master
- * secrets and HMAC keys; AxleLog and AxleExpected, which hold Finished values; AxleHash where what it took was secret. A call also
- * leaves copies on the stack below its caller, within AXLE_STACK_..
+ * secrets and HMAC keys; AxleLog and AxleExpected, which hold Finished values; AxleHash and AxleHash384 where what they took was
+ * secret. A call also leaves copies on the stack below its caller, within AXLE_STACK_..
  *
  * Processors. The archive and the shared library are for x86-64 (none of its extensions is needed) with the System V calling
  * convention and ELF: Linux and its like, 64 bits, static or position-independent. They link nowhere else. Of the C library
@@ -49,10 +49,10 @@ extern "C" {
 /* The first number is 0 for as long as a struct or a call may change from one minor version to the next; a patch changes
  * neither. So the shared library's soname has the first two. tools/build reads the numbers here. */
 #define AXLE_GATEWAY_VERSION_MAJOR 0
-#define AXLE_GATEWAY_VERSION_MINOR 8
+#define AXLE_GATEWAY_VERSION_MINOR 9
 #define AXLE_GATEWAY_VERSION_PATCH 0
-#define AXLE_GATEWAY_VERSION "0.8.0"
-/* for #if: 800 is 0.8.0, 10203 is 1.2.3 */
+#define AXLE_GATEWAY_VERSION "0.9.0"
+/* for #if: 900 is 0.9.0, 10203 is 1.2.3 */
 #define AXLE_GATEWAY_VERSION_NUMBER \
     (AXLE_GATEWAY_VERSION_MAJOR * 10000 + AXLE_GATEWAY_VERSION_MINOR * 100 + AXLE_GATEWAY_VERSION_PATCH)
 
@@ -62,11 +62,12 @@ enum {
     AXLE_REPLY_MAX = 35,        /* the reply of axle_decide_server: an `out` of this size is never too short */
     AXLE_RANDOM_SIZE = 32,      /* a hello's random */
     AXLE_IDENTIFIER_MAX = 32,   /* a session identifier */
-    AXLE_DIGEST_SIZE = 32,      /* SHA-256, HMAC-SHA-256, the session hash */
+    AXLE_DIGEST_SIZE = 32,      /* SHA-256, HMAC-SHA-256, the session hash with SHA-256 */
+    AXLE_DIGEST384_SIZE = 48,   /* SHA-384, HMAC-SHA-384, the session hash with SHA-384 */
     AXLE_SECRET_SIZE = 48,      /* a master secret */
     AXLE_VERIFY_DATA_SIZE = 12, /* the value of a Finished */
     AXLE_PRE_MASTER_MAX = 512,  /* a pre-master secret */
-    AXLE_HASH_MAX = 1048576,    /* what a hash takes from fresh */
+    AXLE_HASH_MAX = 1048576,    /* what a hash takes from fresh, either one */
     AXLE_HMAC_MAX = 65536       /* an HMAC's key, and its message */
 };
 
@@ -75,7 +76,7 @@ enum {
     AXLE_AXLES = 6,             /* axles are numbered from 1 */
     AXLE_SESSIONS_MAX = 32,     /* sessions in a table */
     AXLE_SESSIONS_AN_AXLE = 8,  /* sessions of one axle */
-    AXLE_ALLOWANCE_MAX = 256   /* hash blocks that axle_log_feed may be allowed a call */
+    AXLE_ALLOWANCE_MAX = 256   /* blocks of each hash that axle_log_feed may be allowed a call */
 };
 
 /* Overwrites with zeros, and is not optimised away. */
@@ -165,6 +166,49 @@ AxleDigest axle_hash_digest(AxleHash hash);
 /* The digest of one whole message. 10 where it has more than 1,048,576 bytes. */
 AxleDigested axle_sha256(const uint8_t *message, size_t length);
 
+/* ---- SHA-384 ---------------------------------------------------------------------------------------------------- */
+
+/* The same calls with the same bounds. A running hash: */
+typedef struct {
+    uint64_t state[8];
+    uint8_t tail[128];
+    uint64_t length;
+} AxleHash384;
+
+typedef struct {
+    AxleRefusal refusal; /* 0, or 10 */
+    AxleHash384 hash;    /* the next state; refused: the one passed */
+} AxleAbsorbed384;
+
+typedef struct {
+    uint8_t bytes[AXLE_DIGEST384_SIZE];
+} AxleDigest384;
+
+typedef struct {
+    AxleRefusal refusal; /* 0, or 10 */
+    uint8_t digest[AXLE_DIGEST384_SIZE]; /* refused: zeros */
+} AxleDigested384;
+
+/* A hash that has taken nothing. */
+AxleHash384 axle_hash384_fresh(void);
+
+/* Takes `length` bytes more. 10 where that would make more than 1,048,576 bytes from fresh. */
+AxleAbsorbed384 axle_hash384_absorb(AxleHash384 hash, const uint8_t *bytes, size_t length);
+
+/* The same, on a hash in place. */
+static inline AxleRefusal axle_hash384_absorb_in(AxleHash384 *hash, const uint8_t *bytes, size_t length)
+{
+    AxleAbsorbed384 answer = axle_hash384_absorb(*hash, bytes, length);
+    *hash = answer.hash;
+    return answer.refusal;
+}
+
+/* The SHA-384 digest of all bytes taken so far; the hash can go on taking. */
+AxleDigest384 axle_hash384_digest(AxleHash384 hash);
+
+/* The digest of one whole message. 10 where it has more than 1,048,576 bytes. */
+AxleDigested384 axle_sha384(const uint8_t *message, size_t length);
+
 /* ---- HMAC and the master secrets -------------------------------------------------------------------------------- */
 
 typedef struct {
@@ -172,16 +216,28 @@ typedef struct {
     uint8_t tag[AXLE_DIGEST_SIZE]; /* refused: zeros */
 } AxleTagged;
 
+typedef struct {
+    AxleRefusal refusal; /* 0, or 10 */
+    uint8_t tag[AXLE_DIGEST384_SIZE]; /* refused: zeros */
+} AxleTagged384;
+
 /* HMAC-SHA-256 of a message (RFC 2104). 10 where key or message has more than 65,536 bytes. */
 AxleTagged axle_hmac(const uint8_t *key, size_t key_length, const uint8_t *message, size_t message_length);
 
-/* The extended master secret (RFC 7627, section 4) to the first 48 bytes of `out`; what stands behind them stays.
- * 10, with nothing written, where the pre-master secret has not 1 to 512 bytes, the session hash not 32, or `out` under 48. */
-AxleRefusal axle_extended_master_secret(const uint8_t *pre_master, size_t pre_master_length, const uint8_t *session_hash,
-                                        size_t session_hash_length, uint8_t *out, size_t out_length);
+/* HMAC-SHA-384, with the same bounds. */
+AxleTagged384 axle_hmac_sha384(const uint8_t *key, size_t key_length, const uint8_t *message, size_t message_length);
 
-/* The master secret of RFC 5246, section 8.1: `randoms` is the client's, then the server's, 64 bytes. Otherwise as above. */
-AxleRefusal axle_master_secret(const uint8_t *pre_master, size_t pre_master_length, const uint8_t *randoms,
+/* The extended master secret (RFC 7627, section 4) to the first 48 bytes of `out`; what stands behind them stays. `sha384` tells
+ * the hash of the suite, which its PRF is over: no for SHA-256, yes for SHA-384. The session hash is by the same: 32 bytes, or 48.
+ * 10, with nothing written, where it has another length, that of the other hash too, where the pre-master secret has not 1 to 512
+ * bytes, or `out` under 48. */
+AxleRefusal axle_extended_master_secret(uint8_t sha384, const uint8_t *pre_master, size_t pre_master_length,
+                                        const uint8_t *session_hash, size_t session_hash_length, uint8_t *out,
+                                        size_t out_length);
+
+/* The master secret of RFC 5246, section 8.1: `randoms` is the client's, then the server's, 64 bytes with either hash. Otherwise
+ * as above. */
+AxleRefusal axle_master_secret(uint8_t sha384, const uint8_t *pre_master, size_t pre_master_length, const uint8_t *randoms,
                                size_t randoms_length, uint8_t *out, size_t out_length);
 
 /* ---- Reading a hello -------------------------------------------------------------------------------------------- */
@@ -477,33 +533,54 @@ AxleDecision axle_decide_client(const uint8_t *message, size_t length, const uin
 
 /* ---- The message log -------------------------------------------------------------------------------------------- */
 
-/* The transcript of one handshake: whose turn it is, and its running hash. */
+/* The hashes that a log carries: both until a ServerHello is whole, then that of its suite. The other one is then fresh. */
 typedef struct {
-    AxleHash hash;
+    AxleHash sha256;
+    AxleHash384 sha384;
+    uint8_t choice; /* 0: both; 1: SHA-256 alone; 2: SHA-384 alone */
+} AxleTranscript;
+
+/* The transcript of one handshake: whose turn it is, and its running hashes. */
+typedef struct {
+    AxleTranscript hash;
     uint8_t place;
-    uint8_t session[32];
+    uint8_t session[48];
     uint8_t client[12];
     uint8_t server[12];
-    uint8_t kind;  /* of a message between its parts: its type, */
-    uint8_t next;  /* the place that it leads to, */
-    uint16_t left; /* how many bytes of it are left. All 0 where there is none */
+    uint8_t kind;   /* of a message between its parts: its type, */
+    uint8_t next;   /* the place that it leads to, */
+    uint8_t sha384; /* the hash that was told with it, */
+    uint16_t left;  /* how many bytes of it are left. All 0 where there is none */
 } AxleLog;
+
+/* What a log is told with a ServerHello. With other messages it is of no account. */
+typedef struct {
+    uint8_t resumes; /* it resumes a session; else a full handshake */
+    uint8_t sha384;  /* the PRF of its suite is over SHA-384; else over SHA-256 */
+} AxleTold;
 
 typedef struct {
     AxleRefusal refusal; /* 0, 1 with its place, 7 or 10; of axle_log_finish 8 besides */
     AxleLog log;         /* the next state; refused: the one passed */
 } AxleAccepted;
 
+/* Hash blocks that were worked, of 64 bytes with SHA-256 and of 128 with SHA-384; 0 for a hash that is not carried. */
+typedef struct {
+    size_t sha256;
+    size_t sha384;
+} AxleBlocks;
+
 typedef struct {
     AxleRefusal refusal; /* 0, 1 with its place, 7 or 10 */
     AxleLog log;         /* the next state; refused: the one passed */
     size_t taken;        /* how many bytes, from the front of the rest, have entered the log; refused: 0 */
-    size_t blocks;       /* how many hash blocks, of 64 bytes each, were worked with them; refused: 0 */
+    AxleBlocks blocks;   /* how many blocks of each hash were worked with them; refused: 0 */
 } AxleFed;
 
 typedef struct {
     AxleRefusal refusal; /* 0 or 7 */
-    uint8_t hash[AXLE_DIGEST_SIZE]; /* refused: zeros */
+    uint8_t length;      /* how many bytes it has: 32 with SHA-256, 48 with SHA-384; refused: 0 */
+    uint8_t hash[AXLE_DIGEST384_SIZE]; /* zeros behind them; refused: zeros */
 } AxleSessionHash;
 
 typedef struct {
@@ -515,58 +592,68 @@ typedef struct {
 AxleLog axle_log_fresh(void);
 
 /* Accepts the next handshake message, header included, or refuses it: 10 over 16,388 bytes, 1 malformed, 7 out of turn.
- * `resumes` tells, with a ServerHello, whether it resumes; with other messages it is of no account. A Finished of 12 bytes is
- * 7 here, due or not: axle_log_finish takes it. Between the parts of a message (axle_log_feed) every other one is 7, type 0 too.
+ * A Finished of 12 bytes is 7 here, due or not: axle_log_finish takes it. Between the parts of a message (axle_log_feed) every
+ * other one is 7, type 0 too.
+ *
+ * `told` says, with a ServerHello, whether it resumes and which hash its suite has; with other messages it is of no account. The
+ * log does not read the hello: that what is told fits its identifier and its suite is the caller's matter. Since the hash is not
+ * known before, messages up to the ServerHello, and that one too, are worked by both, and later ones by the one that was told.
  *
  * The log judges the header alone, so a malformed message broke where under 4 bytes end (the place is how many there are), or at
  * its length, place 1: it is not that of the body, not 0 with type 0, or not 12 with a Finished. */
-AxleAccepted axle_log_accept(AxleLog log, const uint8_t *message, size_t length, uint8_t resumes);
+AxleAccepted axle_log_accept(AxleLog log, const uint8_t *message, size_t length, AxleTold told);
 
 /* The same, on a log in place. */
-static inline AxleRefusal axle_log_accept_in(AxleLog *log, const uint8_t *message, size_t length, uint8_t resumes)
+static inline AxleRefusal axle_log_accept_in(AxleLog *log, const uint8_t *message, size_t length, AxleTold told)
 {
-    AxleAccepted answer = axle_log_accept(*log, message, length, resumes);
+    AxleAccepted answer = axle_log_accept(*log, message, length, told);
     *log = answer.log;
     return answer.refusal;
 }
 
-/* The same, but part by part, so that a long message does not keep others waiting: a call works at most `allowance` blocks of
- * the hash, 1 to 256. It is lent all of the message that is not yet taken: first the whole of it, header included, then what the
- * call before left. With h bytes waiting in the hash (all that were hashed so far, those of this message too, modulo 64) it takes
- * the smaller of `length` and 64 * (allowance + 1) - 1 - h: one more would complete a block too many. The call that takes all it
- * is lent accepts the message, and hands back the very log that axle_log_accept gives on the bytes taken:
+/* The same, but part by part, so that a long message does not keep others waiting: a call works at most `allowance` blocks, 1 to
+ * 256, of each hash that is carried. It is lent all of the message that is not yet taken: first the whole of it, header included,
+ * then what the call before left. It takes the smaller of `length` and
+ *
+ *     64 * (allowance + 1) - 1 - h     with SHA-256, alone or beside SHA-384, whose own bound is then never the smaller one
+ *     128 * (allowance + 1) - 1 - h    with SHA-384 alone
+ *
+ * where h bytes wait in that hash (all that were hashed so far, those of this message too, modulo 64 or 128): one more would
+ * complete a block too many. The call that takes all it is lent accepts the message, and hands back the very log that
+ * axle_log_accept gives on the bytes taken:
  *
  *     do {
- *         AxleFed fed = axle_log_feed(log, rest, length, 16, resumes);
+ *         AxleFed fed = axle_log_feed(log, rest, length, 16, told);
  *         if (fed.refusal.number != AXLE_DONE)
  *             return fed.refusal;
  *         log = fed.log, rest += fed.taken, length -= fed.taken;
  *         others_turn();
  *     } while (length > 0);
  *
- * With an allowance of 1, 300 bytes enter a fresh log as 127, 64, 64 and 45, with one block each time. A call that is not refused
- * takes 64 bytes or more, or all that is left. Type 0 is one call: it takes its 4 bytes, works no block and leaves the log.
+ * With an allowance of 1, 300 bytes enter a fresh log as 127, 64, 64 and 45, with one block of SHA-256 each time, and with 0, 1, 0
+ * and 1 of SHA-384. A call that is not refused takes 64 bytes or more, or all that is left. Type 0 is one call: it takes its 4
+ * bytes, works no block and leaves the log.
  *
  * Header, turn and whole length are judged before the first byte is taken; behind it only the lengths are. Refused, with the log
  * as it was, no byte taken and no block worked, by the first of these that applies:
  *   10  with any part: allowance not 1 to 256
  *   10, 1, 7  with the first: as axle_log_accept refuses the message, so with 7 a Finished, due or not
  *   10  with a later one: another length than is left, whatever the bytes
- * `resumes` counts with the first part of a ServerHello, and is not asked with later ones. Only bytes taken count: those that were
- * lent and left may be other ones the next time.
+ * `told` counts with the first part of a ServerHello, and is not asked with later ones; all of its parts are worked by both
+ * hashes. Only bytes taken count: those that were lent and left may be other ones the next time.
  *
  * Between the parts every other call that takes the log is 7, after its 10 and 1: the message is accepted when it is whole, and
  * not before. No call gives it up; a caller that may have to keeps the log from before.
  *
  * With the last part of a ClientKeyExchange the session hash is made. The one or two blocks of padding that this works are
  * neither allowed for nor counted. */
-AxleFed axle_log_feed(AxleLog log, const uint8_t *rest, size_t length, size_t allowance, uint8_t resumes);
+AxleFed axle_log_feed(AxleLog log, const uint8_t *rest, size_t length, size_t allowance, AxleTold told);
 
 /* The same, on a log in place: `taken` and `blocks` take the answer's numbers, 0 where refused; either may be NULL. */
-static inline AxleRefusal axle_log_feed_in(AxleLog *log, const uint8_t *rest, size_t length, size_t allowance, uint8_t resumes,
-                                           size_t *taken, size_t *blocks)
+static inline AxleRefusal axle_log_feed_in(AxleLog *log, const uint8_t *rest, size_t length, size_t allowance, AxleTold told,
+                                           size_t *taken, AxleBlocks *blocks)
 {
-    AxleFed answer = axle_log_feed(*log, rest, length, allowance, resumes);
+    AxleFed answer = axle_log_feed(*log, rest, length, allowance, told);
     *log = answer.log;
     if (taken != NULL)
         *taken = answer.taken;
@@ -575,12 +662,13 @@ static inline AxleRefusal axle_log_feed_in(AxleLog *log, const uint8_t *rest, si
     return answer.refusal;
 }
 
-/* The session hash of RFC 7627: over ClientHello through ClientKeyExchange. 7 before that, in a resumed handshake, and between
- * the parts of a message: so between those of a CertificateVerify, and when that is whole it is the same again. */
+/* The session hash of RFC 7627, by the hash that was told: over ClientHello through ClientKeyExchange. Its `hash` and `length` are
+ * what axle_extended_master_secret takes. 7 before that, in a resumed handshake, and between the parts of a message: so between
+ * those of a CertificateVerify, and when that is whole it is the same again. */
 AxleSessionHash axle_log_session_hash(AxleLog log);
 
-/* Checks a Finished against this 48-byte master secret and takes it: the log has then accepted it. Refused, with the log as it
- * was, by the first of these that applies:
+/* Checks a Finished against this 48-byte master secret, by the hash that was told, and takes it: the log has then accepted it.
+ * Refused, with the log as it was, by the first of these that applies:
  *   10  secret not of 48 bytes; message over 16,388
  *    1  malformed, with the place that axle_log_accept has; the body of a Finished has 12 bytes
  *    7  another type than Finished, in turn or not; no Finished due, as between the parts of a message
@@ -598,8 +686,8 @@ static inline AxleRefusal axle_log_finish_in(AxleLog *log, const uint8_t *secret
     return answer.refusal;
 }
 
-/* verify_data of the Finished that is due. 10 for a secret not of 48 bytes, 7 where none is due, as between the parts of a
- * message. */
+/* verify_data of the Finished that is due, by the hash that was told. 10 for a secret not of 48 bytes, 7 where none is due, as
+ * between the parts of a message. */
 AxleExpected axle_log_expected_finished(AxleLog log, const uint8_t *secret, size_t secret_length);
 
 /* ---- Completion ------------------------------------------------------------------------------------------------- */
@@ -620,9 +708,14 @@ enum {
     AXLE_STACK_HASH_ABSORB = 816,
     AXLE_STACK_HASH_DIGEST = 528,
     AXLE_STACK_SHA256 = 736,
+    AXLE_STACK_HASH384_FRESH = 8,
+    AXLE_STACK_HASH384_ABSORB = 1216,
+    AXLE_STACK_HASH384_DIGEST = 864,
+    AXLE_STACK_SHA384 = 1024,
     AXLE_STACK_HMAC = 1072,
-    AXLE_STACK_EXTENDED_MASTER_SECRET = 1584,
-    AXLE_STACK_MASTER_SECRET = 1744,
+    AXLE_STACK_HMAC_SHA384 = 1648,
+    AXLE_STACK_EXTENDED_MASTER_SECRET = 1808,
+    AXLE_STACK_MASTER_SECRET = 1872,
     AXLE_STACK_READ_CLIENT_HELLO = 800,
     AXLE_STACK_READ_SERVER_HELLO = 704,
     AXLE_STACK_NEXT_EXTENSION = 8,
@@ -637,13 +730,13 @@ enum {
     AXLE_STACK_CONNECTION_FRESH = 8,
     AXLE_STACK_DECIDE_SERVER = 6024,
     AXLE_STACK_DECIDE_CLIENT = 768,
-    AXLE_STACK_LOG_FRESH = 8,
-    AXLE_STACK_LOG_ACCEPT = 992,
-    AXLE_STACK_LOG_FEED = 1072,
-    AXLE_STACK_LOG_SESSION_HASH = 224,
-    AXLE_STACK_LOG_FINISH = 1904,
-    AXLE_STACK_LOG_EXPECTED_FINISHED = 1440,
-    AXLE_STACK_COMPLETE = 264
+    AXLE_STACK_LOG_FRESH = 88,
+    AXLE_STACK_LOG_ACCEPT = 2496,
+    AXLE_STACK_LOG_FEED = 2592,
+    AXLE_STACK_LOG_SESSION_HASH = 464,
+    AXLE_STACK_LOG_FINISH = 2704,
+    AXLE_STACK_LOG_EXPECTED_FINISHED = 2192,
+    AXLE_STACK_COMPLETE = 488
 };
 
 #ifdef __cplusplus

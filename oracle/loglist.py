@@ -1,14 +1,15 @@
-"""Document 01, program `loglist`; a Finished by order 6 of document 02, the place by order 9."""
+"""Document 01, program `loglist`; a Finished by order 6 of document 02, the hash by order 7, the place by order 9."""
 
 import sys
 
 from . import decision
 from .book import Book
-from .log import Log
+from .log import Log, Told
 from .numbers import PLACED
 
 LIMIT = 32_768
 SECRET = bytes(48)  # a case has none
+TOLD = Told(resumes=False, sha384=False)  # "a fresh log never told of resuming"; "`loglist` states SHA-256"
 
 
 def contents(case):
@@ -32,7 +33,7 @@ def contents(case):
 
 def fed(log, body):
     """(number, place)"""
-    return log.finish(SECRET, body) if body[:1] == b"\x14" else log.accept(body)
+    return log.finish(SECRET, body) if body[:1] == b"\x14" else log.accept(body, TOLD)
 
 
 def column(number, place):

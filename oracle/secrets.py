@@ -1,17 +1,34 @@
-"""Document 01, 'Secrets': FIPS 180-4, RFC 2104, RFC 5246 section 5, RFC 7627 section 4."""
+"""Document 01, 'Secrets', and order 7 of document 02, 'SHA-384 suites': FIPS 180-4, RFC 2104, RFC 5246 section 5, RFC 7627 section 4.
+
+Which of the two hashes it is stands in front: a flag, yes for SHA-384."""
 
 import hashlib
 import hmac as _hmac
 
 HASH_LIMIT = 1_048_576
 HMAC_LIMIT = 65_536
+HASHES = {False: hashlib.sha256, True: hashlib.sha384}
+
+
+def block(sha384):
+    """Its block in bytes."""
+    return HASHES[sha384]().block_size
+
+
+def width(sha384):
+    """How many bytes its digest has."""
+    return HASHES[sha384]().digest_size
+
+
+def digest(sha384, message):
+    return HASHES[sha384](message).digest()
 
 
 class Hash:
     """A running hash. A feed that would pass the limit takes nothing."""
 
-    def __init__(self):
-        self.taken = b""
+    def __init__(self, sha384):
+        self.sha384, self.taken = sha384, b""
 
     def absorb(self, data):
         if len(self.taken) + len(data) > HASH_LIMIT:
@@ -20,52 +37,53 @@ class Hash:
         return 0
 
     def digest(self):
-        return hashlib.sha256(self.taken).digest()
+        return digest(self.sha384, self.taken)
 
 
-def sha256(message):
+def one_shot(sha384, message):
     """(number, digest)"""
     if len(message) > HASH_LIMIT:
-        return 10, bytes(32)
-    return 0, hashlib.sha256(message).digest()
+        return 10, bytes(width(sha384))
+    return 0, digest(sha384, message)
 
 
-def mac(key, message):
-    return _hmac.new(key, message, hashlib.sha256).digest()
+def mac(sha384, key, message):
+    return _hmac.new(key, message, HASHES[sha384]).digest()
 
 
-def hmac(key, message):
+def hmac(sha384, key, message):
     """(number, tag)"""
     if len(key) > HMAC_LIMIT or len(message) > HMAC_LIMIT:
-        return 10, bytes(32)
-    return 0, mac(key, message)
+        return 10, bytes(width(sha384))
+    return 0, mac(sha384, key, message)
 
 
-def prf(secret, label, seed, length):
+def prf(sha384, secret, label, seed, length):
     """RFC 5246, section 5: P_hash(secret, label + seed), cut to length."""
     seed = label + seed
     a = seed
     out = b""
     while len(out) < length:
-        a = mac(secret, a)
-        out += mac(secret, a + seed)
+        a = mac(sha384, secret, a)
+        out += mac(sha384, secret, a + seed)
     return out[:length]
 
 
-def _derive(label, seed_length, pre_master, seed, out):
+def _derive(sha384, label, seed_length, pre_master, seed, out):
     """(number, out afterwards)"""
     if not 1 <= len(pre_master) <= 512 or len(seed) != seed_length or len(out) < 48:
         return 10, out
-    return 0, prf(pre_master, label, seed, 48) + out[48:]
+    return 0, prf(sha384, pre_master, label, seed, 48) + out[48:]
 
 
-def extended_master_secret(pre_master, session_hash, out):
-    return _derive(b"extended master secret", 32, pre_master, session_hash, out)
+def extended_master_secret(sha384, pre_master, session_hash, out):
+    """ "The extended seed is 32 or 48 bytes by hash." """
+    return _derive(sha384, b"extended master secret", width(sha384), pre_master, session_hash, out)
 
 
-def master_secret(pre_master, randoms, out):
-    return _derive(b"master secret", 64, pre_master, randoms, out)
+def master_secret(sha384, pre_master, randoms, out):
+    return _derive(sha384, b"master secret", 64, pre_master, randoms, out)
 
 
-def verify_data(secret, server, log_hash):
-    return prf(secret, b"server finished" if server else b"client finished", log_hash, 12)
+def verify_data(sha384, secret, server, log_hash):
+    return prf(sha384, secret, b"server finished" if server else b"client finished", log_hash, 12)

@@ -4,6 +4,7 @@ import ctypes as c
 import pathlib
 
 from oracle import decision as oracle
+from oracle.log import Told as OracleTold
 
 LIB = c.CDLL(str(pathlib.Path(__file__).resolve().parent.parent / "target/c/libaxle_gateway.so"))
 
@@ -68,7 +69,7 @@ def declare(name, answer, *arguments):
 refusal = declare("axle_refusal", Refusal, u8)
 
 
-# SHA-256
+# SHA-256 and SHA-384
 
 
 class Hash(c.Structure):
@@ -87,11 +88,31 @@ class Digested(c.Structure):
     _fields_ = [("refusal", Refusal), ("digest", u8 * 32)]
 
 
+class Hash384(c.Structure):
+    _fields_ = [("state", u64 * 8), ("tail", u8 * 128), ("length", u64)]
+
+
+class Absorbed384(c.Structure):
+    _fields_ = [("refusal", Refusal), ("hash", Hash384)]
+
+
+class Digest384(c.Structure):
+    _fields_ = [("bytes", u8 * 48)]
+
+
+class Digested384(c.Structure):
+    _fields_ = [("refusal", Refusal), ("digest", u8 * 48)]
+
+
 sizeof_hash = c.sizeof(Hash)
 hash_fresh = declare("axle_hash_fresh", Hash)
 hash_absorb = declare("axle_hash_absorb", Absorbed, Hash, BYTES)
 hash_digest = declare("axle_hash_digest", Digest, Hash)
 sha256 = declare("axle_sha256", Digested, BYTES)
+hash384_fresh = declare("axle_hash384_fresh", Hash384)
+hash384_absorb = declare("axle_hash384_absorb", Absorbed384, Hash384, BYTES)
+hash384_digest = declare("axle_hash384_digest", Digest384, Hash384)
+sha384 = declare("axle_sha384", Digested384, BYTES)
 
 
 # Reading a hello
@@ -211,37 +232,55 @@ class Tagged(c.Structure):
     _fields_ = [("refusal", Refusal), ("tag", u8 * 32)]
 
 
+class Tagged384(c.Structure):
+    _fields_ = [("refusal", Refusal), ("tag", u8 * 48)]
+
+
 hmac = declare("axle_hmac", Tagged, BYTES, BYTES)
-extended_master_secret = declare("axle_extended_master_secret", Refusal, BYTES, BYTES, LENT)
-master_secret = declare("axle_master_secret", Refusal, BYTES, BYTES, LENT)
+hmac_sha384 = declare("axle_hmac_sha384", Tagged384, BYTES, BYTES)
+extended_master_secret = declare("axle_extended_master_secret", Refusal, u8, BYTES, BYTES, LENT)
+master_secret = declare("axle_master_secret", Refusal, u8, BYTES, BYTES, LENT)
 
 
 # The message log
 
 
+class Transcript(c.Structure):
+    _fields_ = [("sha256", Hash), ("sha384", Hash384), ("choice", u8)]
+
+
 class Log(c.Structure):
     _fields_ = [
-        ("hash", Hash),
+        ("hash", Transcript),
         ("place", u8),
-        ("session", u8 * 32),
+        ("session", u8 * 48),
         ("client", u8 * 12),
         ("server", u8 * 12),
         ("kind", u8),
         ("next", u8),
+        ("sha384", u8),
         ("left", u16),
     ]
+
+
+class Told(c.Structure):
+    _fields_ = [("resumes", u8), ("sha384", u8)]
 
 
 class Accepted(c.Structure):
     _fields_ = [("refusal", Refusal), ("log", Log)]
 
 
+class Blocks(c.Structure):
+    _fields_ = [("sha256", size), ("sha384", size)]
+
+
 class Fed(c.Structure):
-    _fields_ = [("refusal", Refusal), ("log", Log), ("taken", size), ("blocks", size)]
+    _fields_ = [("refusal", Refusal), ("log", Log), ("taken", size), ("blocks", Blocks)]
 
 
 class SessionHash(c.Structure):
-    _fields_ = [("refusal", Refusal), ("hash", u8 * 32)]
+    _fields_ = [("refusal", Refusal), ("length", u8), ("hash", u8 * 48)]
 
 
 class Expected(c.Structure):
@@ -250,11 +289,16 @@ class Expected(c.Structure):
 
 sizeof_log = c.sizeof(Log)
 log_fresh = declare("axle_log_fresh", Log)
-log_accept = declare("axle_log_accept", Accepted, Log, BYTES, u8)
-log_feed = declare("axle_log_feed", Fed, Log, BYTES, size, u8)
+log_accept = declare("axle_log_accept", Accepted, Log, BYTES, Told)
+log_feed = declare("axle_log_feed", Fed, Log, BYTES, size, Told)
 log_session_hash = declare("axle_log_session_hash", SessionHash, Log)
 log_finish = declare("axle_log_finish", Accepted, Log, BYTES, BYTES)
 log_expected_finished = declare("axle_log_expected_finished", Expected, Log, BYTES)
+
+
+def told(t=OracleTold()):
+    """What the second program is told, as a struct."""
+    return Told(*t)
 
 
 # Decisions and completion

@@ -1,14 +1,20 @@
 """Real TLS 1.2 handshakes, made by OpenSSL in this process over memory buffers.
 
-The suite is TLS_RSA_WITH_NULL_SHA256, so that the Finished messages stand in clear text on the wire, and the RSA key is
-the test's own, so that the pre-master secret can be taken out of the ClientKeyExchange.
+The suite is TLS_RSA_WITH_NULL_SHA256 unless told otherwise, so that the Finished messages stand in clear text on the wire, and the RSA
+key is the test's own, so that the pre-master secret can be taken out of the ClientKeyExchange. Python can set up no such suite with
+SHA-384: with those below a Finished is taken out of its record, by the keys that both ends make from the master secret.
 """
 
 import base64
 import pathlib
+import shutil
 import ssl
+import subprocess
 import tempfile
 from dataclasses import dataclass
+
+from oracle.secrets import prf
+from tests import Missing
 
 DATA = pathlib.Path(__file__).resolve().parent / "data"
 CERTIFICATE, KEY = str(DATA / "test-only.crt"), str(DATA / "test-only.key")
@@ -16,18 +22,22 @@ NO_EXTENDED_MASTER_SECRET = 1  # OpenSSL's SSL_OP_NO_EXTENDED_MASTER_SECRET
 NO_ENCRYPT_THEN_MAC = 1 << 19  # and its SSL_OP_NO_ENCRYPT_THEN_MAC
 SUITE = 0x003B  # of NULL-SHA256
 MAC = 32  # bytes of HMAC-SHA256 behind each record once the cipher is on
+# with SHA-384, by OpenSSL's names: the pre-master secret under the RSA key, and by a key exchange of its own
+SHA384_SUITES = ("AES256-GCM-SHA384", "ECDHE-RSA-AES256-GCM-SHA384")
+NONCE, TAG = 8, 16  # bytes before and behind what is sealed in a record of these (RFC 5288, section 3)
 
 
 @dataclass
 class Handshake:
     messages: list  # (from the client?, message with its header), in order
     master_secret: bytes  # as OpenSSL wrote it down
-    pre_master: bytes  # None in a resumed one
+    pre_master: bytes  # None in a resumed one, and where it is not under the RSA key
     resumed: bool
     ems: bool
+    sha384: bool
 
 
-def _contexts(client_certificate, ems, keylog):
+def _contexts(client_certificate, ems, keylog, suite="NULL-SHA256"):
     server = ssl.SSLContext(ssl.PROTOCOL_TLS_SERVER)
     client = ssl.SSLContext(ssl.PROTOCOL_TLS_CLIENT)
     client.check_hostname = False
@@ -35,7 +45,7 @@ def _contexts(client_certificate, ems, keylog):
     server.load_cert_chain(CERTIFICATE, KEY)
     for context in (server, client):
         context.minimum_version = context.maximum_version = ssl.TLSVersion.TLSv1_2
-        context.set_ciphers("NULL-SHA256:@SECLEVEL=0")
+        context.set_ciphers(f"{suite}:@SECLEVEL=0")
         context.options |= ssl.OP_NO_TICKET
         if not ems:
             context.options |= NO_EXTENDED_MASTER_SECRET
@@ -45,6 +55,10 @@ def _contexts(client_certificate, ems, keylog):
         server.verify_mode = ssl.CERT_REQUIRED
     client.keylog_filename = keylog
     return client, server
+
+
+class _Sealed(bytes):
+    """A handshake record behind a ChangeCipherSpec, as it stands on the wire: it has a Finished, and nothing else."""
 
 
 class _Side:
@@ -62,8 +76,10 @@ class _Side:
             body, self.pending = self.pending[5 : 5 + n], self.pending[5 + n :]
             if kind == 20:
                 self.protected = True
+            elif kind == 22 and self.protected:
+                self.out.append(_Sealed(body))
             elif kind == 22:
-                self.stream += body[:-MAC] if self.protected else body
+                self.stream += body
             while len(self.stream) >= 4 and len(self.stream) >= 4 + int.from_bytes(self.stream[1:4], "big"):
                 m = 4 + int.from_bytes(self.stream[1:4], "big")
                 self.out.append(self.stream[:m])
@@ -123,22 +139,47 @@ def _pre_master(client_key_exchange):
     return pow(sealed, private, modulus).to_bytes(256, "big")[-48:]
 
 
-def _handshake(messages, keylog, at, resumed, ems):
+def openssl(*words, data=b""):
+    """What the command `openssl` writes."""
+    if not shutil.which("openssl"):
+        raise Missing("the command openssl is not installed, or not on the PATH: the tests of SHA-384 want it")
+    return subprocess.run(["openssl", *words], input=data, capture_output=True, check=True).stdout
+
+
+def _opened(record, from_client, master, hellos):
+    """What a record of AES-256-GCM seals: RFC 5246, section 6.3, makes the keys; a block's counter stands behind salt and nonce, and is
+    2 at the first. The tag is not looked at: OpenSSL's other end has done so."""
+    randoms = [hello[6:38] for hello in hellos]
+    keys = prf(True, master, b"key expansion", randoms[1] + randoms[0], 72)
+    key, salt = (keys[:32], keys[64:68]) if from_client else (keys[32:64], keys[68:])
+    counter = salt + record[:NONCE] + (2).to_bytes(4, "big")
+    return openssl("enc", "-d", "-aes-256-ctr", "-K", key.hex(), "-iv", counter.hex(), data=record[NONCE:-TAG])
+
+
+def _handshake(messages, keylog, at, resumed, ems, suite):
     lines = [line.split() for line in open(keylog) if line.startswith("CLIENT_RANDOM")]
-    master = bytes.fromhex(lines[at][2])
-    exchange = [m for _, m in messages if m[0] == 16]
-    return Handshake(messages, master, _pre_master(exchange[0]) if exchange else None, resumed, ems)
+    master, sha384 = bytes.fromhex(lines[at][2]), suite in SHA384_SUITES
+    hellos = [m for _, m in messages[:2]]
+
+    def clear(from_client, m):
+        if not isinstance(m, _Sealed):
+            return m
+        return _opened(m, from_client, master, hellos) if sha384 else m[:-MAC]
+
+    messages = [(from_client, clear(from_client, m)) for from_client, m in messages]
+    exchange = [] if suite.startswith("ECDHE") else [m for _, m in messages if m[0] == 16]
+    return Handshake(messages, master, _pre_master(exchange[0]) if exchange else None, resumed, ems, sha384)
 
 
-def full_and_resumed(client_certificate=False, ems=True):
+def full_and_resumed(client_certificate=False, ems=True, suite="NULL-SHA256"):
     """A full handshake and one that resumes its session."""
     with tempfile.NamedTemporaryFile() as keylog:
-        client, server = _contexts(client_certificate, ems, keylog.name)
+        client, server = _contexts(client_certificate, ems, keylog.name, suite)
         c, _kept, messages = _run(client, server)  # OpenSSL forgets the session of a server end that is freed
-        first = _handshake(messages, keylog.name, 0, False, ems)
+        first = _handshake(messages, keylog.name, 0, False, ems, suite)
         again, _, messages = _run(client, server, c.session)
         assert again.session_reused
-        return first, _handshake(messages, keylog.name, 1, True, ems)
+        return first, _handshake(messages, keylog.name, 1, True, ems, suite)
 
 
 # ---- A session whose suite is another one the second time
@@ -159,7 +200,7 @@ def offered_with(*lists):
     with tempfile.NamedTemporaryFile() as keylog:
         client, server = _contexts(False, True, keylog.name)
         c, _kept, messages = _run(client, server)
-        full, hellos = _handshake(messages, keylog.name, 0, False, True), []
+        full, hellos = _handshake(messages, keylog.name, 0, False, True, "NULL-SHA256"), []
         for names in lists:
             client.set_ciphers(f"{names}:@SECLEVEL=0")
             side, out = _Side(), ssl.MemoryBIO()

@@ -1,6 +1,7 @@
 /* What include/axle_gateway.h says beside the calls: versions, sizes, parts of what is absent, places, NULL with length 0, the lists
- * of a writer, suites, the functions that keep a state in place, what a table has left of sessions given up, and a message that enters
- * by parts. It is C99 and C++ at once; each case that is not so is a line, and the last line counts them all. */
+ * of a writer, suites, the functions that keep a state in place, what a table has left of sessions given up, a message that enters by
+ * parts, and the hash that a log is told. It is C99 and C++ at once; each case that is not so is a line, and the last line counts them
+ * all. */
 #include "axle_gateway.h"
 
 #include <stdio.h>
@@ -22,6 +23,7 @@ enum { CLIENT_HELLO = 1, SERVER_HELLO = 2, HELLO_DONE = 14, KEY_EXCHANGE = 16, F
 static uint8_t bytes[AXLE_HASH_MAX + 1];
 static const uint8_t secret[AXLE_SECRET_SIZE] = {1, 2, 3};
 static const uint8_t name[AXLE_IDENTIFIER_MAX] = {9};
+static const AxleTold full = {0, 0}, by_sha384 = {0, 1};
 
 static int same(const void *a, const void *b, size_t length)
 {
@@ -55,8 +57,8 @@ static size_t hello(uint8_t *to, uint8_t type, const uint8_t *rest, size_t lengt
 
 /* ---- Version and sizes ------------------------------------------------------------------------------------------- */
 
-#if AXLE_GATEWAY_VERSION_NUMBER < 800
-#error "older than 0.8.0"
+#if AXLE_GATEWAY_VERSION_NUMBER < 900
+#error "older than 0.9.0"
 #endif
 
 static void versions(void)
@@ -64,6 +66,12 @@ static void versions(void)
     char text[64];
     sprintf(text, "%d.%d.%d", AXLE_GATEWAY_VERSION_MAJOR, AXLE_GATEWAY_VERSION_MINOR, AXLE_GATEWAY_VERSION_PATCH);
     IS(strcmp(text, AXLE_GATEWAY_VERSION) == 0);
+}
+
+/* So many blocks of each hash. */
+static int worked(AxleBlocks blocks, size_t sha256, size_t sha384)
+{
+    return blocks.sha256 == sha256 && blocks.sha384 == sha384;
 }
 
 /* Each size at its bound, and a byte beyond it. */
@@ -80,13 +88,14 @@ static void sizes(void)
 
     memset(bytes, 0, sizeof bytes);
     bytes[0] = CLIENT_HELLO, bytes[2] = (AXLE_MESSAGE_MAX - 4) >> 8, bytes[3] = (AXLE_MESSAGE_MAX - 4) & 255;
-    IS(axle_log_accept(axle_log_fresh(), bytes, AXLE_MESSAGE_MAX, 0).refusal.number == AXLE_DONE);
-    IS(axle_log_accept(axle_log_fresh(), bytes, AXLE_MESSAGE_MAX + 1, 0).refusal.number == AXLE_LENGTH);
-    IS(axle_log_feed(axle_log_fresh(), bytes, AXLE_MESSAGE_MAX, AXLE_ALLOWANCE_MAX, 0).taken == AXLE_MESSAGE_MAX);
-    IS(axle_log_feed(axle_log_fresh(), bytes, AXLE_MESSAGE_MAX, AXLE_ALLOWANCE_MAX, 0).blocks == AXLE_ALLOWANCE_MAX);
-    IS(axle_log_feed(axle_log_fresh(), bytes, AXLE_MESSAGE_MAX, AXLE_ALLOWANCE_MAX + 1, 0).refusal.number == AXLE_LENGTH);
-    IS(axle_log_feed(axle_log_fresh(), bytes, AXLE_MESSAGE_MAX, 0, 0).refusal.number == AXLE_LENGTH);
-    IS(axle_log_feed(axle_log_fresh(), bytes, AXLE_MESSAGE_MAX + 1, AXLE_ALLOWANCE_MAX, 0).refusal.number == AXLE_LENGTH);
+    IS(axle_log_accept(axle_log_fresh(), bytes, AXLE_MESSAGE_MAX, full).refusal.number == AXLE_DONE);
+    IS(axle_log_accept(axle_log_fresh(), bytes, AXLE_MESSAGE_MAX + 1, full).refusal.number == AXLE_LENGTH);
+    IS(axle_log_feed(axle_log_fresh(), bytes, AXLE_MESSAGE_MAX, AXLE_ALLOWANCE_MAX, full).taken == AXLE_MESSAGE_MAX);
+    IS(worked(axle_log_feed(axle_log_fresh(), bytes, AXLE_MESSAGE_MAX, AXLE_ALLOWANCE_MAX, full).blocks, AXLE_ALLOWANCE_MAX,
+              AXLE_ALLOWANCE_MAX / 2));
+    IS(axle_log_feed(axle_log_fresh(), bytes, AXLE_MESSAGE_MAX, AXLE_ALLOWANCE_MAX + 1, full).refusal.number == AXLE_LENGTH);
+    IS(axle_log_feed(axle_log_fresh(), bytes, AXLE_MESSAGE_MAX, 0, full).refusal.number == AXLE_LENGTH);
+    IS(axle_log_feed(axle_log_fresh(), bytes, AXLE_MESSAGE_MAX + 1, AXLE_ALLOWANCE_MAX, full).refusal.number == AXLE_LENGTH);
     IS(axle_log_finish(axle_log_fresh(), secret, AXLE_SECRET_SIZE, bytes, AXLE_MESSAGE_MAX).refusal.number == AXLE_OUT_OF_TURN);
     IS(axle_log_finish(axle_log_fresh(), secret, AXLE_SECRET_SIZE, bytes, AXLE_MESSAGE_MAX + 1).refusal.number == AXLE_LENGTH);
     IS(axle_log_finish(axle_log_fresh(), bytes, AXLE_SECRET_SIZE + 1, bytes, AXLE_MESSAGE_MAX).refusal.number == AXLE_LENGTH);
@@ -105,11 +114,21 @@ static void sizes(void)
     IS(axle_hmac(bytes, AXLE_HMAC_MAX, bytes, AXLE_HMAC_MAX).refusal.number == AXLE_DONE);
     IS(axle_hmac(bytes, AXLE_HMAC_MAX + 1, bytes, 0).refusal.number == AXLE_LENGTH);
     IS(axle_hmac(bytes, 0, bytes, AXLE_HMAC_MAX + 1).refusal.number == AXLE_LENGTH);
-    IS(axle_extended_master_secret(bytes, AXLE_PRE_MASTER_MAX, bytes, AXLE_DIGEST_SIZE, out, AXLE_SECRET_SIZE).number == AXLE_DONE);
-    IS(axle_extended_master_secret(bytes, AXLE_PRE_MASTER_MAX + 1, bytes, AXLE_DIGEST_SIZE, out, AXLE_SECRET_SIZE).number == AXLE_LENGTH);
-    IS(axle_extended_master_secret(bytes, 1, bytes, AXLE_DIGEST_SIZE + 1, out, AXLE_SECRET_SIZE).number == AXLE_LENGTH);
-    IS(axle_extended_master_secret(bytes, 1, bytes, AXLE_DIGEST_SIZE, out, AXLE_SECRET_SIZE - 1).number == AXLE_LENGTH);
-    IS(axle_master_secret(bytes, 1, bytes, 2 * AXLE_RANDOM_SIZE, out, AXLE_SECRET_SIZE).number == AXLE_DONE);
+    IS(axle_sha384(bytes, AXLE_HASH_MAX).refusal.number == AXLE_DONE);
+    IS(axle_sha384(bytes, AXLE_HASH_MAX + 1).refusal.number == AXLE_LENGTH);
+    IS(axle_hmac_sha384(bytes, AXLE_HMAC_MAX, bytes, AXLE_HMAC_MAX).refusal.number == AXLE_DONE);
+    IS(axle_hmac_sha384(bytes, AXLE_HMAC_MAX + 1, bytes, 0).refusal.number == AXLE_LENGTH);
+    IS(axle_hmac_sha384(bytes, 0, bytes, AXLE_HMAC_MAX + 1).refusal.number == AXLE_LENGTH);
+    for (i = 0; i < 3; i++) { /* a flag of 0, 1 and 2 */
+        const size_t seed = i == 0 ? AXLE_DIGEST_SIZE : AXLE_DIGEST384_SIZE, other = AXLE_DIGEST_SIZE + AXLE_DIGEST384_SIZE - seed;
+        IS(axle_extended_master_secret(i, bytes, AXLE_PRE_MASTER_MAX, bytes, seed, out, AXLE_SECRET_SIZE).number == AXLE_DONE);
+        IS(axle_extended_master_secret(i, bytes, AXLE_PRE_MASTER_MAX + 1, bytes, seed, out, AXLE_SECRET_SIZE).number == AXLE_LENGTH);
+        IS(axle_extended_master_secret(i, bytes, 1, bytes, seed + 1, out, AXLE_SECRET_SIZE).number == AXLE_LENGTH);
+        IS(axle_extended_master_secret(i, bytes, 1, bytes, other, out, AXLE_SECRET_SIZE).number == AXLE_LENGTH);
+        IS(axle_extended_master_secret(i, bytes, 1, bytes, seed, out, AXLE_SECRET_SIZE - 1).number == AXLE_LENGTH);
+        IS(axle_master_secret(i, bytes, 1, bytes, 2 * AXLE_RANDOM_SIZE, out, AXLE_SECRET_SIZE).number == AXLE_DONE);
+        IS(axle_master_secret(i, bytes, 1, bytes, seed, out, AXLE_SECRET_SIZE).number == AXLE_LENGTH);
+    }
 
     IS(axle_table_store(table, AXLE_AXLES, name, AXLE_IDENTIFIER_MAX, 0, SUITE, secret, AXLE_SECRET_SIZE).refusal.number == AXLE_DONE);
     IS(axle_table_store(table, AXLE_AXLES, bytes, AXLE_IDENTIFIER_MAX + 1, 0, SUITE, secret, AXLE_SECRET_SIZE).refusal.number
@@ -125,7 +144,9 @@ static void sizes(void)
         axle_table_store_in(&table, 1, &i, 1, 0, SUITE, secret, sizeof secret);
     IS(axle_table_held(table, 1).count == AXLE_SESSIONS_AN_AXLE);
     IS(sizeof(AxleTable) == 4038 && sizeof(AxleTable) == AXLE_AXLES * (AXLE_SESSIONS_AN_AXLE * (2 + 2 + 32 + AXLE_SECRET_SIZE) + 1));
-    IS(sizeof(AxleLog) == 168 && sizeof(AxleFed) == sizeof(AxleRefusal) + sizeof(AxleLog) + 2 * sizeof(size_t));
+    IS(sizeof(AxleHash) == 104 && sizeof(AxleHash384) == 200 && sizeof(AxleTranscript) == 312 && sizeof(AxleTold) == 2);
+    IS(sizeof(AxleLog) == 392 && offsetof(AxleLog, place) == 312 && offsetof(AxleLog, kind) == 385 && offsetof(AxleLog, left) == 388);
+    IS(sizeof(AxleFed) == sizeof(AxleRefusal) + sizeof(AxleLog) + 3 * sizeof(size_t) && sizeof(AxleSessionHash) == 72);
     IS(sizeof(AxleStored) == 4056 && sizeof(AxleWithdrawn) == 4056 && sizeof(AxleCleared) == 4056);
     IS(sizeof axle_log_expected_finished(axle_log_fresh(), secret, sizeof secret).value == AXLE_VERIFY_DATA_SIZE);
 }
@@ -184,7 +205,7 @@ static void hello_broke(const uint8_t *block, size_t length, uint8_t number, siz
     IS(broke(axle_decide_server(bytes, n, 1, table, fresh, none, out, sizeof out).refusal, number, 45 + behind));
     IS(broke(axle_decide_server(bytes, n, 0, table, fresh, none, out, sizeof out).refusal, AXLE_AXLE_OR_IDENTIFIER, 0));
     IS(broke(axle_read_server_hello(bytes, n).refusal, AXLE_MALFORMED, 0));
-    IS(broke(axle_log_accept(axle_log_fresh(), bytes, n, 0).refusal, AXLE_DONE, 0));
+    IS(broke(axle_log_accept(axle_log_fresh(), bytes, n, full).refusal, AXLE_DONE, 0));
     IS(broke(axle_read_client_hello(bytes, n - 1).refusal, AXLE_MALFORMED, 1));
     n = hello(bytes, SERVER_HELLO, block, length);
     IS(broke(axle_read_server_hello(bytes, n).refusal, number, 42 + behind));
@@ -212,13 +233,13 @@ static void places(void)
     hello_broke(data_in_ems, sizeof data_in_ems, AXLE_MALFORMED, 6);
     hello_broke(empty_ri, sizeof empty_ri, AXLE_MALFORMED, 10);
     hello_broke(a_b_b_a, sizeof a_b_b_a, AXLE_EXTENSION_TWICE, 10);
-    IS(broke(axle_log_accept_in(&log, type_0, 3, 0), AXLE_MALFORMED, 3));
-    IS(broke(axle_log_accept_in(&log, type_0, sizeof type_0, 0), AXLE_MALFORMED, 1));
-    IS(broke(axle_log_accept_in(&log, out_of_turn, sizeof out_of_turn, 0), AXLE_OUT_OF_TURN, 0));
-    IS(broke(axle_log_feed_in(&log, type_0, 3, 1, 0, NULL, NULL), AXLE_MALFORMED, 3));
-    IS(broke(axle_log_feed_in(&log, type_0, sizeof type_0, 1, 0, NULL, NULL), AXLE_MALFORMED, 1));
-    IS(broke(axle_log_feed_in(&log, type_0, sizeof type_0, 0, 0, NULL, NULL), AXLE_LENGTH, 0));
-    IS(broke(axle_log_feed_in(&log, out_of_turn, sizeof out_of_turn, 1, 0, NULL, NULL), AXLE_OUT_OF_TURN, 0));
+    IS(broke(axle_log_accept_in(&log, type_0, 3, full), AXLE_MALFORMED, 3));
+    IS(broke(axle_log_accept_in(&log, type_0, sizeof type_0, full), AXLE_MALFORMED, 1));
+    IS(broke(axle_log_accept_in(&log, out_of_turn, sizeof out_of_turn, full), AXLE_OUT_OF_TURN, 0));
+    IS(broke(axle_log_feed_in(&log, type_0, 3, 1, full, NULL, NULL), AXLE_MALFORMED, 3));
+    IS(broke(axle_log_feed_in(&log, type_0, sizeof type_0, 1, full, NULL, NULL), AXLE_MALFORMED, 1));
+    IS(broke(axle_log_feed_in(&log, type_0, sizeof type_0, 0, full, NULL, NULL), AXLE_LENGTH, 0));
+    IS(broke(axle_log_feed_in(&log, out_of_turn, sizeof out_of_turn, 1, full, NULL, NULL), AXLE_OUT_OF_TURN, 0));
     IS(broke(axle_log_finish_in(&log, secret, sizeof secret, type_0, 2), AXLE_MALFORMED, 2));
     IS(broke(axle_log_finish_in(&log, secret, sizeof secret - 1, type_0, 2), AXLE_LENGTH, 0));
 }
@@ -345,14 +366,22 @@ static void nulls(void)
     AxleDigested of_nothing = axle_sha256(NULL, 0);
     AxleHash hash = axle_hash_absorb(axle_hash_fresh(), abc, sizeof abc).hash;
     AxleAbsorbed more = axle_hash_absorb(hash, NULL, 0);
+    AxleDigested384 of_nothing384 = axle_sha384(NULL, 0);
+    AxleHash384 hash384 = axle_hash384_absorb(axle_hash384_fresh(), abc, sizeof abc).hash;
+    AxleAbsorbed384 more384 = axle_hash384_absorb(hash384, NULL, 0);
     uint8_t to[128], out[1];
     size_t n;
     IS(of_nothing.refusal.number == AXLE_DONE && same(of_nothing.digest, axle_hash_digest(axle_hash_fresh()).bytes, 32));
     IS(more.refusal.number == AXLE_DONE && same(axle_hash_digest(more.hash).bytes, axle_sha256(abc, sizeof abc).digest, 32));
+    IS(of_nothing384.refusal.number == AXLE_DONE && same(of_nothing384.digest, axle_hash384_digest(axle_hash384_fresh()).bytes, 48));
+    IS(more384.refusal.number == AXLE_DONE && same(axle_hash384_digest(more384.hash).bytes, axle_sha384(abc, sizeof abc).digest, 48));
     IS(axle_hmac(NULL, 0, NULL, 0).refusal.number == AXLE_DONE);
-    IS(axle_extended_master_secret(NULL, 0, NULL, 0, NULL, 0).number == AXLE_LENGTH);
-    IS(axle_extended_master_secret(abc, sizeof abc, name, sizeof name, NULL, 0).number == AXLE_LENGTH);
-    IS(axle_master_secret(NULL, 0, NULL, 0, NULL, 0).number == AXLE_LENGTH);
+    IS(axle_hmac_sha384(NULL, 0, NULL, 0).refusal.number == AXLE_DONE);
+    for (n = 0; n < 2; n++) {
+        IS(axle_extended_master_secret((uint8_t)n, NULL, 0, NULL, 0, NULL, 0).number == AXLE_LENGTH);
+        IS(axle_extended_master_secret((uint8_t)n, abc, sizeof abc, to, n ? 48 : 32, NULL, 0).number == AXLE_LENGTH);
+        IS(axle_master_secret((uint8_t)n, NULL, 0, NULL, 0, NULL, 0).number == AXLE_LENGTH);
+    }
     IS(broke(axle_read_client_hello(NULL, 0).refusal, AXLE_MALFORMED, 0));
     IS(broke(axle_read_server_hello(NULL, 0).refusal, AXLE_MALFORMED, 0));
     IS(!axle_next_extension(NULL, 0, 0).found && !axle_next_extension(NULL, 0, 2).found);
@@ -375,9 +404,9 @@ static void nulls(void)
     IS(axle_decide_client(NULL, 0, NULL, 0, 0, NULL, 0, 0, 0, fresh, legacy).refusal.number == AXLE_MALFORMED);
     n = hello(to, SERVER_HELLO, out, 0);
     IS(axle_decide_client(to, n, NULL, 0, 0, NULL, 0, 0, 0, fresh, legacy).refusal.number == AXLE_DONE);
-    IS(axle_log_accept(axle_log_fresh(), NULL, 0, 0).refusal.number == AXLE_MALFORMED);
-    IS(axle_log_feed(axle_log_fresh(), NULL, 0, 1, 0).refusal.number == AXLE_MALFORMED);
-    IS(axle_log_feed(axle_log_feed(axle_log_fresh(), bytes, message(bytes, CLIENT_HELLO, data, 200), 1, 0).log, NULL, 0, 1, 0)
+    IS(axle_log_accept(axle_log_fresh(), NULL, 0, full).refusal.number == AXLE_MALFORMED);
+    IS(axle_log_feed(axle_log_fresh(), NULL, 0, 1, full).refusal.number == AXLE_MALFORMED);
+    IS(axle_log_feed(axle_log_feed(axle_log_fresh(), bytes, message(bytes, CLIENT_HELLO, data, 200), 1, full).log, NULL, 0, 1, full)
            .refusal.number
        == AXLE_LENGTH);
     IS(axle_log_finish(axle_log_fresh(), NULL, 0, NULL, 0).refusal.number == AXLE_LENGTH);
@@ -396,6 +425,17 @@ static void hash_in_place(void)
     IS(same(axle_hash_digest(hash).bytes, axle_sha256(abc, sizeof abc).digest, AXLE_DIGEST_SIZE));
     IS(axle_hash_absorb_in(&hash, bytes, AXLE_HASH_MAX).number == AXLE_LENGTH);
     IS(same(axle_hash_digest(hash).bytes, axle_sha256(abc, sizeof abc).digest, AXLE_DIGEST_SIZE));
+}
+
+static void hash384_in_place(void)
+{
+    static const uint8_t abc[3] = {'a', 'b', 'c'};
+    AxleHash384 hash = axle_hash384_fresh();
+    IS(axle_hash384_absorb_in(&hash, abc, 1).number == AXLE_DONE);
+    IS(axle_hash384_absorb_in(&hash, abc + 1, 2).number == AXLE_DONE);
+    IS(same(axle_hash384_digest(hash).bytes, axle_sha384(abc, sizeof abc).digest, AXLE_DIGEST384_SIZE));
+    IS(axle_hash384_absorb_in(&hash, bytes, AXLE_HASH_MAX).number == AXLE_LENGTH);
+    IS(same(axle_hash384_digest(hash).bytes, axle_sha384(abc, sizeof abc).digest, AXLE_DIGEST384_SIZE));
 }
 
 static void table_in_place(void)
@@ -457,10 +497,11 @@ static void given_up(void)
     IS(same(&other, &fresh, sizeof other));
 }
 
-/* In every field: there is padding before and behind the last one. */
+/* In every field: there is padding behind the choice, and behind the last one. */
 static int same_log(AxleLog a, AxleLog b)
 {
-    return same(&a, &b, offsetof(AxleLog, next) + sizeof a.next) && a.left == b.left;
+    return same(&a, &b, offsetof(AxleTranscript, choice) + sizeof a.hash.choice)
+           && same(&a.place, &b.place, offsetof(AxleLog, sha384) + sizeof a.sha384 - offsetof(AxleLog, place)) && a.left == b.left;
 }
 
 /* A Finished that is refused, by either call, leaves the log; with the right value it is taken, and the number of the same message
@@ -472,11 +513,11 @@ static void finished_in_place(AxleLog *log, uint8_t again)
     AxleExpected expected = axle_log_expected_finished(before, secret, sizeof secret);
     size_t n = message(finished, FINISHED, expected.value, sizeof expected.value);
     IS(expected.refusal.number == AXLE_DONE);
-    IS(axle_log_accept_in(log, finished, n, 0).number == AXLE_OUT_OF_TURN && same_log(*log, before));
+    IS(axle_log_accept_in(log, finished, n, full).number == AXLE_OUT_OF_TURN && same_log(*log, before));
     IS(axle_log_finish_in(log, secret, sizeof secret - 1, finished, n).number == AXLE_LENGTH && same_log(*log, before));
     IS(axle_log_finish_in(log, secret, sizeof secret, finished, n - 1).number == AXLE_MALFORMED && same_log(*log, before));
     finished[15] ^= 1;
-    IS(axle_log_accept_in(log, finished, n, 0).number == AXLE_OUT_OF_TURN && same_log(*log, before));
+    IS(axle_log_accept_in(log, finished, n, full).number == AXLE_OUT_OF_TURN && same_log(*log, before));
     IS(axle_log_finish_in(log, secret, sizeof secret, finished, n).number == AXLE_FINISHED_DIFFERS && same_log(*log, before));
     finished[15] ^= 1;
     IS(axle_log_finish_in(log, secret, sizeof secret, finished, n).number == AXLE_DONE && !same_log(*log, before));
@@ -484,29 +525,42 @@ static void finished_in_place(AxleLog *log, uint8_t again)
     IS(axle_log_finish_in(log, secret, sizeof secret, finished, n).number == again);
 }
 
-static void log_in_place(void)
+/* A full handshake by either hash, and a resumed one: the session hash is what the hash's own calls make of the messages, with zeros
+ * behind it, and the hash that is not carried is the fresh one. */
+static void log_in_place(AxleTold told)
 {
-    static const uint8_t types[] = {CLIENT_HELLO, SERVER_HELLO, HELLO_DONE, KEY_EXCHANGE};
+    static const uint8_t types[] = {CLIENT_HELLO, SERVER_HELLO, HELLO_DONE, KEY_EXCHANGE}, zeros[AXLE_DIGEST384_SIZE] = {0};
+    const AxleTold resumed = {1, told.sha384};
+    const AxleHash fresh = axle_hash_fresh();
+    const AxleHash384 fresh384 = axle_hash384_fresh();
     AxleLog log = axle_log_fresh();
-    AxleHash hash = axle_hash_fresh();
-    AxleSessionHash session;
+    AxleHash hash = fresh;
+    AxleHash384 hash384 = fresh384;
+    AxleSessionHash session = axle_log_session_hash(log);
     size_t i, n;
+    IS(session.length == 0 && same(session.hash, zeros, sizeof zeros));
     for (i = 0; i < sizeof types; i++) {
         IS(axle_log_session_hash(log).refusal.number == AXLE_OUT_OF_TURN);
         n = message(bytes, types[i], name, i);
-        IS(axle_log_accept_in(&log, bytes, n, 0).number == AXLE_DONE);
+        IS(axle_log_accept_in(&log, bytes, n, told).number == AXLE_DONE);
         axle_hash_absorb_in(&hash, bytes, n);
-        IS(i == 3 || axle_log_accept_in(&log, bytes, n, 0).number == AXLE_OUT_OF_TURN);
+        axle_hash384_absorb_in(&hash384, bytes, n);
+        IS(same(&log.hash.sha256, i > 0 && told.sha384 ? &fresh : &hash, sizeof hash));
+        IS(same(&log.hash.sha384, i > 0 && !told.sha384 ? &fresh384 : &hash384, sizeof hash384));
+        IS(log.hash.choice == (i == 0 ? 0 : told.sha384 ? 2 : 1));
+        IS(i == 3 || axle_log_accept_in(&log, bytes, n, told).number == AXLE_OUT_OF_TURN);
     }
     session = axle_log_session_hash(log);
-    IS(session.refusal.number == AXLE_DONE && same(session.hash, axle_hash_digest(hash).bytes, sizeof session.hash));
+    n = told.sha384 ? AXLE_DIGEST384_SIZE : AXLE_DIGEST_SIZE;
+    IS(session.refusal.number == AXLE_DONE && session.length == n && same(session.hash + n, zeros, sizeof session.hash - n));
+    IS(same(session.hash, told.sha384 ? axle_hash384_digest(hash384).bytes : axle_hash_digest(hash).bytes, n));
 
     finished_in_place(&log, AXLE_FINISHED_DIFFERS); /* the client's: the server's is due then */
     finished_in_place(&log, AXLE_OUT_OF_TURN);
 
-    log = axle_log_fresh(); /* told that it resumes */
+    log = axle_log_fresh();
     for (i = 0; i < 2; i++)
-        axle_log_accept_in(&log, bytes, message(bytes, types[i], name, 1), 1);
+        axle_log_accept_in(&log, bytes, message(bytes, types[i], name, 1), resumed);
     finished_in_place(&log, AXLE_FINISHED_DIFFERS);
     finished_in_place(&log, AXLE_OUT_OF_TURN);
     IS(axle_log_expected_finished(log, secret, sizeof secret).refusal.number == AXLE_OUT_OF_TURN);
@@ -516,38 +570,68 @@ static void log_in_place(void)
  * another length: the log stays. */
 static void fed_in_place(void)
 {
-    static const size_t parts[] = {127, 64, 64, 45};
+    static const size_t parts[] = {127, 64, 64, 45}, of_sha384[] = {0, 1, 0, 1};
     static const uint8_t type_0[] = {0, 0, 0, 0}, finished[16] = {FINISHED, 0, 0, 12};
     const AxleDecision decision = {{0, 0, 0, 0}, 0, 0, 0, 0, 0, 0, 0};
     AxleConnection connection = axle_connection_fresh();
     AxleLog log = axle_log_fresh(), between;
     AxleFed answer;
-    size_t i, at = 0, taken = 7, blocks = 7, n = message(bytes, CLIENT_HELLO, data, 296);
+    AxleBlocks blocks = {7, 7};
+    size_t i, at = 0, taken = 7, n = message(bytes, CLIENT_HELLO, data, 296);
     IS(n == 300);
     for (i = 0; i < 4; i++) {
-        answer = axle_log_feed(log, bytes + at, n - at, 1, 0);
-        IS(answer.refusal.number == AXLE_DONE && answer.taken == parts[i] && answer.blocks == 1);
-        IS(axle_log_feed_in(&log, bytes + at, n - at, 1, 0, &taken, &blocks).number == AXLE_DONE);
-        IS(same_log(log, answer.log) && taken == parts[i] && blocks == 1);
+        answer = axle_log_feed(log, bytes + at, n - at, 1, full);
+        IS(answer.refusal.number == AXLE_DONE && answer.taken == parts[i] && worked(answer.blocks, 1, of_sha384[i]));
+        IS(axle_log_feed_in(&log, bytes + at, n - at, 1, full, &taken, &blocks).number == AXLE_DONE);
+        IS(same_log(log, answer.log) && taken == parts[i] && worked(blocks, 1, of_sha384[i]));
         at += taken;
         if (at == n)
             break;
         between = log;
-        IS(broke(axle_log_feed_in(&log, bytes + at, n - at, 0, 0, &taken, &blocks), AXLE_LENGTH, 0) && taken == 0 && blocks == 0);
-        IS(broke(axle_log_feed_in(&log, bytes + at, n - at - 1, 1, 0, &taken, NULL), AXLE_LENGTH, 0) && taken == 0);
-        IS(broke(axle_log_feed_in(&log, bytes, n, 1, 0, NULL, &blocks), AXLE_LENGTH, 0) && blocks == 0);
-        IS(axle_log_accept_in(&log, type_0, sizeof type_0, 0).number == AXLE_OUT_OF_TURN);
-        IS(axle_log_accept_in(&log, bytes, n, 0).number == AXLE_OUT_OF_TURN);
-        IS(broke(axle_log_accept_in(&log, type_0, 3, 0), AXLE_MALFORMED, 3));
+        IS(broke(axle_log_feed_in(&log, bytes + at, n - at, 0, full, &taken, &blocks), AXLE_LENGTH, 0) && taken == 0);
+        IS(worked(blocks, 0, 0));
+        IS(broke(axle_log_feed_in(&log, bytes + at, n - at - 1, 1, full, &taken, NULL), AXLE_LENGTH, 0) && taken == 0);
+        blocks.sha256 = blocks.sha384 = 7;
+        IS(broke(axle_log_feed_in(&log, bytes, n, 1, full, NULL, &blocks), AXLE_LENGTH, 0) && worked(blocks, 0, 0));
+        IS(axle_log_accept_in(&log, type_0, sizeof type_0, full).number == AXLE_OUT_OF_TURN);
+        IS(axle_log_accept_in(&log, bytes, n, full).number == AXLE_OUT_OF_TURN);
+        IS(broke(axle_log_accept_in(&log, type_0, 3, full), AXLE_MALFORMED, 3));
         IS(axle_log_finish_in(&log, secret, sizeof secret, finished, sizeof finished).number == AXLE_OUT_OF_TURN);
         IS(axle_log_expected_finished(log, secret, sizeof secret).refusal.number == AXLE_OUT_OF_TURN);
         IS(axle_log_session_hash(log).refusal.number == AXLE_OUT_OF_TURN);
         IS(axle_complete(&connection, log, decision).number == AXLE_OUT_OF_TURN);
         IS(same_log(log, between));
     }
-    IS(at == n && same_log(log, axle_log_accept(axle_log_fresh(), bytes, n, 0).log));
-    IS(axle_log_feed_in(&log, type_0, sizeof type_0, 1, 0, &taken, &blocks).number == AXLE_DONE && taken == 4 && blocks == 0);
-    IS(same_log(log, axle_log_accept(axle_log_fresh(), bytes, n, 0).log));
+    IS(at == n && same_log(log, axle_log_accept(axle_log_fresh(), bytes, n, full).log));
+    IS(axle_log_feed_in(&log, type_0, sizeof type_0, 1, full, &taken, &blocks).number == AXLE_DONE && taken == 4);
+    IS(worked(blocks, 0, 0) && same_log(log, axle_log_accept(axle_log_fresh(), bytes, n, full).log));
+}
+
+/* What is told counts with the first part of a ServerHello, whose parts both hashes work: 83 and 41 bytes behind 300. Then only the one
+ * that was told works, and it has its own bound: 128 * (k + 1) - 1 - h, with 40 of 424 bytes waiting in SHA-384 and in SHA-256. */
+static void told_in_parts(void)
+{
+    static const AxleTold any[] = {{0, 0}, {0, 1}, {0, 255}, {1, 0}, {2, 2}};
+    size_t i, taken, n;
+    AxleBlocks blocks;
+    for (i = 0; i < sizeof any / sizeof *any; i++) {
+        const int sha384 = any[i].sha384 != 0;
+        const AxleTold other = {!any[i].resumes, !any[i].sha384};
+        const AxleLog begun = axle_log_accept(axle_log_fresh(), bytes, message(bytes, CLIENT_HELLO, data, 296), other).log;
+        AxleLog log = begun;
+        n = message(bytes, SERVER_HELLO, data, 120);
+        IS(axle_log_feed_in(&log, bytes, n, 1, any[i], &taken, &blocks).number == AXLE_DONE);
+        IS(taken == 83 && worked(blocks, 1, 0) && log.hash.choice == 0 && log.sha384 == sha384);
+        IS(axle_log_feed_in(&log, bytes + taken, n - taken, 1, other, &taken, &blocks).number == AXLE_DONE);
+        IS(taken == 41 && worked(blocks, 1, 1) && log.hash.choice == 1 + sha384 && log.sha384 == 0);
+        IS(same_log(log, axle_log_accept(begun, bytes, n, any[i]).log));
+        IS((axle_log_expected_finished(log, secret, sizeof secret).refusal.number == AXLE_DONE) == (any[i].resumes != 0));
+        if (any[i].resumes)
+            continue;
+        n = message(bytes, HELLO_DONE, data, 1000);
+        IS(axle_log_feed_in(&log, bytes, n, 2, other, &taken, &blocks).number == AXLE_DONE);
+        IS(sha384 ? taken == 128 * 3 - 1 - 40 && worked(blocks, 0, 2) : taken == 64 * 3 - 1 - 40 && worked(blocks, 2, 0));
+    }
 }
 
 static void wiping(void)
@@ -569,10 +653,13 @@ int main(void)
     suites();
     nulls();
     hash_in_place();
+    hash384_in_place();
     table_in_place();
     given_up();
-    log_in_place();
+    log_in_place(full);
+    log_in_place(by_sha384);
     fed_in_place();
+    told_in_parts();
     wiping();
     printf("%d cases, %d wrong, version %s\n", cases, wrong, AXLE_GATEWAY_VERSION);
     return wrong != 0;

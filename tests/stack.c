@@ -1,5 +1,6 @@
 /* How deep each call of the C face writes the stack: a line a call, its name, and the fewest and the most bytes that a case of it
- * wrote. The cases go every way through a call that leads further down: taken and refused, one block and several, found and not.
+ * wrote; of a call that works by either hash a line for each besides, with .sha256 or .sha384 behind the name. The cases go every way
+ * through a call that leads further down: taken and refused, one block and several, found and not.
  */
 #include "axle_gateway.h"
 #include "painted.h"
@@ -42,6 +43,15 @@ static void note(const char *name, size_t depth)
         size_t depth_;                              \
         PAINTED(depth_, (void)call(__VA_ARGS__));   \
         note(#call, depth_);                        \
+    } while (0)
+
+/* One case of a call that works by either hash. */
+#define TRY_BY(sha384, call, ...)                                     \
+    do {                                                              \
+        size_t depth_;                                                \
+        PAINTED(depth_, (void)call(__VA_ARGS__));                     \
+        note(#call, depth_);                                          \
+        note((sha384) ? #call ".sha384" : #call ".sha256", depth_);   \
     } while (0)
 
 /* ---- Calls whose depth is known, to see that the measure is right ----------------------------------------------- */
@@ -88,35 +98,52 @@ static size_t message(uint8_t *to, uint8_t type, const uint8_t *body, size_t len
 
 static void hashes(void)
 {
-    static const size_t lengths[] = {0, 1, 53, 54, 55, 56, 63, 64, 65, 128, 1000, 1048576, 1048577};
+    static const size_t lengths[] = {0,   1,   53,  54,  55,  56,  63,  64,   65,      110,
+                                     111, 112, 127, 128, 129, 240, 256, 1000, 1048576, 1048577};
     enum { N = sizeof lengths / sizeof *lengths };
     for (int number = 0; number < 256; number++)
         TRY(axle_refusal, (uint8_t)number);
     TRY(axle_hash_fresh);
+    TRY(axle_hash384_fresh);
     for (size_t i = 0; i < N; i++) {
         TRY(axle_sha256, bytes, lengths[i]);
+        TRY(axle_sha384, bytes, lengths[i]);
         AxleHash waiting = axle_hash_absorb(axle_hash_fresh(), bytes, lengths[i]).hash;
+        AxleHash384 waiting384 = axle_hash384_absorb(axle_hash384_fresh(), bytes, lengths[i]).hash;
         TRY(axle_hash_digest, waiting);
-        for (size_t j = 0; j < N; j++)
+        TRY(axle_hash384_digest, waiting384);
+        for (size_t j = 0; j < N; j++) {
             TRY(axle_hash_absorb, waiting, bytes, lengths[j]);
+            TRY(axle_hash384_absorb, waiting384, bytes, lengths[j]);
+        }
     }
     AxleHash over = {.length = 1048577};
+    AxleHash384 over384 = {.length = 1048577};
     TRY(axle_hash_digest, over);
     TRY(axle_hash_absorb, over, bytes, 1);
+    TRY(axle_hash384_digest, over384);
+    TRY(axle_hash384_absorb, over384, bytes, 1);
 }
 
 static void secrets(void)
 {
-    static const size_t lengths[] = {0, 1, 48, 55, 56, 64, 65, 512, 513, 1000, 65536, 65537};
+    static const size_t lengths[] = {0, 1, 48, 55, 56, 64, 65, 111, 112, 128, 129, 512, 513, 1000, 65536, 65537};
     enum { N = sizeof lengths / sizeof *lengths };
-    for (size_t i = 0; i < N; i++) {
-        for (size_t j = 0; j < N; j++)
+    for (size_t i = 0; i < N; i++)
+        for (size_t j = 0; j < N; j++) {
             TRY(axle_hmac, bytes, lengths[i], bytes, lengths[j]);
-        TRY(axle_extended_master_secret, bytes, lengths[i], bytes, 32, out, sizeof out);
-        TRY(axle_master_secret, bytes, lengths[i], bytes, 64, out, sizeof out);
+            TRY(axle_hmac_sha384, bytes, lengths[i], bytes, lengths[j]);
+        }
+    for (uint8_t sha384 = 0; sha384 < 2; sha384++) {
+        size_t seed = sha384 ? 48 : 32;
+        for (size_t i = 0; i < N; i++) {
+            TRY_BY(sha384, axle_extended_master_secret, sha384, bytes, lengths[i], bytes, seed, out, sizeof out);
+            TRY_BY(sha384, axle_master_secret, sha384, bytes, lengths[i], bytes, 64, out, sizeof out);
+        }
+        TRY_BY(sha384, axle_extended_master_secret, sha384, bytes, 48, bytes, seed - 1, out, sizeof out);
+        TRY_BY(sha384, axle_extended_master_secret, sha384, bytes, 48, bytes, 80 - seed, out, sizeof out);
+        TRY_BY(sha384, axle_master_secret, sha384, bytes, 48, bytes, 64, out, 47);
     }
-    TRY(axle_extended_master_secret, bytes, 48, bytes, 31, out, sizeof out);
-    TRY(axle_master_secret, bytes, 48, bytes, 64, out, 47);
 }
 
 /* What stands behind the identifier of a hello, with SUITE in it and not OTHER, and what reading it answers. */
@@ -354,96 +381,102 @@ static void completed(AxleLog log, uint8_t resumes)
     }
 }
 
-/* The kinds of parts that were fed: first and not last, between two others, last and not first, both; the last of a
- * ClientKeyExchange, which makes the session hash. */
-static size_t firsts, middles, lasts, wholes, exchanges;
+/* The kinds of parts that were fed: first and not last, between two others, last and not first, both; by hash the last of a ServerHello,
+ * which chooses it, and of a ClientKeyExchange, which makes the session hash. */
+static size_t firsts, middles, lasts, wholes, choices[2], exchanges[2];
 
 /* A message by parts, the first two by this allowance and the others by the most, and every other call between them. */
-static void fed(AxleLog log, const uint8_t *rest, size_t length, size_t allowance)
+static void fed(AxleLog log, const uint8_t *rest, size_t length, size_t allowance, AxleTold told)
 {
     static const size_t wrong[] = {0, AXLE_ALLOWANCE_MAX + 1, (size_t)-1};
+    static const AxleTold none = {0, 0};
     uint8_t type = rest[0];
     for (size_t part = 0; part == 0 || length > 0; part++) {
         size_t allowed = part < 2 ? allowance : AXLE_ALLOWANCE_MAX;
-        TRY(axle_log_feed, log, rest, length, allowed, part == 0);
-        AxleFed answer = axle_log_feed(log, rest, length, allowed, part == 0);
+        TRY(axle_log_feed, log, rest, length, allowed, part == 0 ? told : none);
+        AxleFed answer = axle_log_feed(log, rest, length, allowed, part == 0 ? told : none);
         if (answer.refusal.number != AXLE_DONE)
             return;
-        TRY(axle_log_feed, log, rest, length - 1, allowed, 0);
+        TRY(axle_log_feed, log, rest, length - 1, allowed, none);
         for (size_t i = 0; i < sizeof wrong / sizeof *wrong; i++)
-            TRY(axle_log_feed, log, rest, length, wrong[i], 0);
+            TRY(axle_log_feed, log, rest, length, wrong[i], none);
         log = answer.log, rest += answer.taken, length -= answer.taken;
         *(length > 0 ? part == 0 ? &firsts : &middles : part == 0 ? &wholes : &lasts) += 1;
-        exchanges += length == 0 && part > 0 && type == 16;
+        choices[log.hash.choice == 2] += length == 0 && part > 0 && type == SERVER_HELLO;
+        exchanges[log.hash.choice == 2] += length == 0 && part > 0 && type == 16;
         if (length == 0)
             return;
         TRY(axle_log_session_hash, log);
         TRY(axle_log_expected_finished, log, bytes, 48);
-        TRY(axle_log_accept, log, rest, length, 0);
-        TRY(axle_log_accept, log, (const uint8_t[4]){0}, 4, 0);
+        TRY(axle_log_accept, log, rest, length, none);
+        TRY(axle_log_accept, log, (const uint8_t[4]){0}, 4, none);
         TRY(axle_log_finish, log, bytes, 48, (const uint8_t[16]){FINISHED, 0, 0, 12}, 16);
         completed(log, 0);
     }
 }
 
-/* Every call on a log, with every type of message, short, long and malformed. */
-static void asked(AxleLog log)
+/* Every call on a log, with every type of message, short, long and malformed; a ServerHello is told of resuming, and that hash. */
+static void asked(AxleLog log, uint8_t sha384)
 {
     static uint8_t read[16389];
     static const size_t lengths[] = {0, 12, 60, 1000, 16384};
+    const AxleTold told = {1, sha384}, none = {0, sha384};
     TRY(axle_log_session_hash, log);
-    TRY(axle_log_expected_finished, log, bytes, 48);
-    TRY(axle_log_expected_finished, log, bytes, 47);
+    TRY_BY(sha384, axle_log_expected_finished, log, bytes, 48);
+    TRY_BY(sha384, axle_log_expected_finished, log, bytes, 47);
     AxleExpected expected = axle_log_expected_finished(log, bytes, 48);
     size_t finished = message(read, FINISHED, expected.value, 12);
-    TRY(axle_log_finish, log, bytes, 48, read, finished);
-    TRY(axle_log_accept, log, read, finished, 0);
+    TRY_BY(sha384, axle_log_finish, log, bytes, 48, read, finished);
+    TRY(axle_log_accept, log, read, finished, none);
     for (int type = 0; type < 22; type++)
         for (size_t i = 0; i < sizeof lengths / sizeof *lengths; i++) {
             size_t n = message(read, (uint8_t)type, bytes, lengths[i]);
-            TRY(axle_log_accept, log, read, n, 1);
-            TRY(axle_log_accept, log, read, n - 1, 0);
-            TRY(axle_log_finish, log, bytes, 48, read, n);
-            TRY(axle_log_finish, log, bytes, 47, read, n);
-            fed(log, read, n, 1);
-            fed(log, read, n, AXLE_ALLOWANCE_MAX);
+            TRY(axle_log_accept, log, read, n, told);
+            TRY(axle_log_accept, log, read, n - 1, none);
+            TRY_BY(sha384, axle_log_finish, log, bytes, 48, read, n);
+            TRY_BY(sha384, axle_log_finish, log, bytes, 47, read, n);
+            fed(log, read, n, 1, told);
+            fed(log, read, n, AXLE_ALLOWANCE_MAX, told);
         }
-    TRY(axle_log_accept, log, read, sizeof read, 0);
-    TRY(axle_log_feed, log, read, sizeof read, 1, 0);
+    TRY(axle_log_accept, log, read, sizeof read, none);
+    TRY(axle_log_feed, log, read, sizeof read, 1, none);
     TRY(axle_log_finish, log, bytes, 48, read, sizeof read);
 }
 
 /* A handshake of these types, message by message, the bodies of that length. */
-static void handshake(const uint8_t *types, size_t n, size_t length, uint8_t resumes)
+static void handshake(const uint8_t *types, size_t n, size_t length, AxleTold told)
 {
     static uint8_t read[16388];
     AxleLog log = axle_log_fresh();
-    asked(log);
+    asked(log, told.sha384);
     for (size_t i = 0; i < n; i++) {
         AxleAccepted accepted;
         if (types[i] == FINISHED) {
             AxleExpected expected = axle_log_expected_finished(log, bytes, 48);
             accepted = axle_log_finish(log, bytes, 48, read, message(read, FINISHED, expected.value, 12));
         } else {
-            accepted = axle_log_accept(log, read, message(read, types[i], bytes, length), resumes);
+            accepted = axle_log_accept(log, read, message(read, types[i], bytes, length), told);
         }
         must(accepted.refusal.number == AXLE_DONE, "a message in turn");
         log = accepted.log;
-        asked(log);
-        completed(log, resumes);
+        asked(log, told.sha384);
+        completed(log, told.resumes);
     }
 }
 
 static void logs(void)
 {
     static const uint8_t full[] = {1, 2, 11, 12, 13, 14, 11, 16, 15, 20, 20}, resumed[] = {1, 2, 20, 20};
-    static const size_t lengths[] = {0, 37, 60, 61, 1000};
+    enum { N = 5 };
+    static const size_t lengths[2][N] = {{0, 37, 60, 61, 1000}, {0, 101, 124, 125, 1000}}; /* by hash */
     TRY(axle_log_fresh);
-    for (size_t i = 0; i < sizeof lengths / sizeof *lengths; i++) {
-        handshake(full, sizeof full, lengths[i], 0);
-        handshake(resumed, sizeof resumed, lengths[i], 1);
-    }
-    must(firsts && middles && lasts && wholes && exchanges, "a part of each kind");
+    for (uint8_t sha384 = 0; sha384 < 2; sha384++)
+        for (size_t i = 0; i < N; i++) {
+            handshake(full, sizeof full, lengths[sha384][i], (AxleTold){0, sha384});
+            handshake(resumed, sizeof resumed, lengths[sha384][i], (AxleTold){1, sha384});
+        }
+    must(firsts && middles && lasts && wholes, "a part of each kind");
+    must(choices[0] && choices[1] && exchanges[0] && exchanges[1], "a last part that chooses a hash, and one that makes a session hash");
 }
 
 int main(void)

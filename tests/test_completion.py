@@ -9,9 +9,9 @@ from oracle import numbers, secrets
 from oracle.book import Book
 from oracle.decision import Connection, Switches
 from oracle.hello import EMS, RI
-from oracle.log import complete
+from oracle.log import Told, complete
 from tests import face, hellos, test_writing
-from tests.handshakes import full_and_resumed
+from tests.handshakes import SHA384_SUITES, full_and_resumed
 from tests.test_decision import client_agrees, server_agrees, two_bytes
 from tests.test_log import Pair, copied
 
@@ -31,12 +31,12 @@ def decided(resumes, ems=True, indication=True):
     return decisions._outcome(indication, resumes, ems)
 
 
-def stages(resumes):
+def stages(resumes, sha384=False):
     """A log at each stage of a handshake."""
     p = Pair()
     yield p
     for kind in (1, 2) if resumes else (1, 2, 11, 14, 16):
-        p.accept(hellos.message(kind, b"x"), resumes)
+        p.accept(hellos.message(kind, b"x"), Told(resumes, sha384))
         yield copied(p)
     for _ in range(2):
         p.take_due()
@@ -44,9 +44,10 @@ def stages(resumes):
 
 
 def test_every_stage():
-    for resumes in (False, True):
+    """With either hash: completion does not ask which."""
+    for resumes, sha384 in itertools.product((False, True), repeat=2):
         found = []
-        for p in stages(resumes):
+        for p in stages(resumes, sha384):
             for says, ems, flag, refused in itertools.product((False, True), repeat=4):
                 decision = decisions.Decision(1, 17) if refused else decided(says, ems, flag)
                 for record in (Connection(), Connection(True, True, False, b"c" * 12, b"s" * 12)):
@@ -59,8 +60,8 @@ def test_every_stage():
 
 
 def test_values_go_by_side():
-    for resumes in (False, True):
-        *_, p = stages(resumes)
+    for resumes, sha384 in itertools.product((False, True), repeat=2):
+        *_, p = stages(resumes, sha384)
         _, after = agree(p, Connection(), decided(resumes))
         assert (after.client, after.server) == (p.oracle.values["C"], p.oracle.values["S"])
         assert after.client != after.server
@@ -68,8 +69,8 @@ def test_values_go_by_side():
 
 def test_two_real_handshakes_on_one_connection():
     """Hello, decision, log and completion together, on OpenSSL's messages; then a renegotiation of our own."""
-    for ems in (True, False):
-        full, _ = full_and_resumed(ems=ems)
+    for ems, suite in itertools.product((True, False), ("NULL-SHA256", *SHA384_SUITES)):
+        full, _ = full_and_resumed(ems=ems, suite=suite)
         switches = Switches(legacy_full=True)
         table = face.table_fresh()
         record = Connection()
@@ -78,7 +79,7 @@ def test_two_real_handshakes_on_one_connection():
         raw = face.decide_server(hello, 1, table, face.connection(record), face.switches(switches), face.lend(bytes(64)))
         p = Pair()
         for _, m in full.messages:
-            assert p.feed(full.master_secret, m) == 0
+            assert p.feed(full.master_secret, m, Told(sha384=full.sha384)) == 0
         number, record = agree(p, record, made, raw)
         assert number == 0 and record.completed
         again = hellos.client_hello(extensions=hellos.ri(record.client) + hellos.ems())
@@ -103,7 +104,8 @@ def test_flags_of_any_value():
 # ---- Our own hellos, by the writers
 
 AXLE, REPLY_MAX = 3, 35
-SUITES = (0x003B, 0x3B00, 0xC027, 0x009C)  # of which a handshake takes one
+SUITES = (0x003B, 0x3B00, 0xC027, 0x009D)  # of which a handshake takes one
+SHA384 = 0x009D  # the one whose hash is SHA-384
 
 
 class Sides:
@@ -145,13 +147,14 @@ class Sides:
         assert message[4 + 2 + 32 + 1 + len(named) + 2 + 1 :] == reply
         return message
 
-    def secret(self, hello, answer, session_hash, ems):
+    def secret(self, hello, answer, session_hash, ems, sha384):
         pre_master, lent = self.r.randbytes(48), face.lend(bytes(48))
         if ems:
             ours, theirs, seed = face.extended_master_secret, secrets.extended_master_secret, session_hash
         else:
             ours, theirs, seed = face.master_secret, secrets.master_secret, hello[6:38] + answer[6:38]
-        assert ours(pre_master, seed, lent).number == 0 and theirs(pre_master, seed, bytes(48)) == (0, bytes(lent))
+        assert ours(int(sha384), pre_master, seed, lent).number == 0
+        assert theirs(sha384, pre_master, seed, bytes(48)) == (0, bytes(lent))
         return bytes(lent)
 
     def handshake(self, session, indicates, ems, switches):
@@ -167,13 +170,13 @@ class Sides:
         answer = self.answer(named, suite, reply)
         assert client_agrees(answer, offered, known, self.client, switches) == decided
         between = [] if decided.resumes else [hellos.message(kind, self.r.randbytes(40)) for kind in (11, 14, 16)]
-        logs = Pair(), Pair()
+        logs, told = (Pair(), Pair()), Told(decided.resumes, suite == SHA384)  # a session has no hash: its suite says it again
         for log in logs:
-            assert not any(log.accept(message, decided.resumes) for message in (hello, answer, *between))
+            assert not any(log.accept(message, told) for message in (hello, answer, *between))
         if not decided.resumes:
             hashes = [log.session_hash() for log in logs]
             assert hashes[0] == hashes[1]
-            session = named, decided.ems, suite, self.secret(hello, answer, hashes[0][1], decided.ems)
+            session = named, decided.ems, suite, self.secret(hello, answer, hashes[0][1], decided.ems, told.sha384)
             assert self.book.store(AXLE, *session) == 0
             self.table = face.table_store(self.table, AXLE, named, int(decided.ems), suite, session[3]).table
         for log in logs:
@@ -206,4 +209,7 @@ def test_our_own_hellos():
                 assert closed or len({before.client, before.server, after.client, after.server}) == (4 if before.completed else 3)
                 what = "closed" if closed else f"{'later' if before.completed else 'first'} {'resumed' if resumes else 'full'}"
                 test_writing.counted(seen, what)
-    return test_writing.told(seen, "first full", "first resumed", "later full", "later resumed", "closed")
+                if not closed and session[2] == SHA384:
+                    test_writing.counted(seen, f"{what} with SHA-384")
+    ways = [f"{when} {how}" for when in ("first", "later") for how in ("full", "resumed")]
+    return test_writing.told(seen, *ways, *(f"{way} with SHA-384" for way in ways), "closed")

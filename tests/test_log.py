@@ -1,16 +1,15 @@
-"""The message log against the second program: every order of types, random walks, real handshakes of OpenSSL. After each call the
-whole log is compared, not the answer alone."""
+"""The message log against the second program: every order of types with either hash, random walks, real handshakes of OpenSSL. After
+each call the whole log is compared, not the answer alone."""
 
-import hashlib
 import itertools
 import random
 import re
 
 from oracle import numbers, secrets
-from oracle.log import LETTER
+from oracle.log import LETTER, Told
 from oracle.log import Log as Oracle
 from tests import face, hellos, values
-from tests.handshakes import full_and_resumed
+from tests.handshakes import SHA384_SUITES, full_and_resumed
 
 TYPES = (0, 1, 2, 11, 12, 13, 14, 15, 16, 20, 99)
 LONGEST = 16_388
@@ -20,6 +19,10 @@ NOT_48_BYTES = (b"", SECRET[1:], SECRET + b"\x00", bytes(LONGEST + 1))
 # The words of accepted messages that lead to a place, in the order of the places' numbers (crates/log/src/order.rt).
 FULL = ["", "a", "ab", "abc", "abc?k", "abc?k?r", "abc?k?d", "abc?k?rd", "abc?k?rdc", "abc?k?dx", "abc?k?rdcx", ".*v", ".*C", ".*CS"]
 RESUMED = ["ab", "abS", "abSC"]
+CHOICES = {None: 0, False: 1, True: 2}  # the number for what is chosen: both hashes, SHA-256, SHA-384
+RESUMES = Told(resumes=True)
+BOTH = (False, True)
+EVERY_TOLD = [Told(*flags) for flags in itertools.product(BOTH, BOTH)]
 
 
 def place(word, resumed):
@@ -29,12 +32,20 @@ def place(word, resumed):
 
 
 def between(oracle):
-    """What is taken of a message between its parts, its type, the place that it leads to, and how many bytes are left."""
+    """What is taken of a message between its parts, its type, the place that it leads to, the hash that was told, and how many bytes are
+    left."""
     if not oracle.begun:
-        return b"", 0, 0, 0
+        return b"", 0, 0, 0, 0
     got, whole, told = oracle.begun
     kind = got[0]
-    return got, kind, place(oracle.word + LETTER[kind], told if kind == 2 else oracle.resumed), whole - len(got)
+    leads_to = place(oracle.word + LETTER[kind], told.resumes if kind == 2 else oracle.resumed)
+    return got, kind, leads_to, int(told.sha384), whole - len(got)
+
+
+def carried(log):
+    """Each hash of a log: its flag, its struct, its digest, and the one that has taken nothing."""
+    yield False, log.hash.sha256, face.hash_digest, face.hash_fresh()
+    yield True, log.hash.sha384, face.hash384_digest, face.hash384_fresh()
 
 
 class Pair:
@@ -58,26 +69,32 @@ class Pair:
         log, o = self.log, self.oracle
         got, *kept = between(o)
         hashed = o.hashed + got
-        digest = bytes(face.hash_digest(log.hash).bytes)
-        assert (log.hash.length, digest) == (len(hashed), hashlib.sha256(hashed).digest()), o.word
-        assert (log.place, bytes(log.session)) == (place(o.word, o.resumed), o.session or bytes(32)), o.word
-        assert [log.kind, log.next, log.left] == kept, o.word
+        assert log.hash.choice == CHOICES[o.sha384], o.word
+        for sha384, hash_, digest, fresh in carried(log):
+            if o.sha384 in (None, sha384):
+                right = len(hashed), secrets.digest(sha384, hashed)
+                assert (hash_.length, bytes(digest(hash_).bytes)) == right, (o.word, sha384)
+            else:
+                assert face.plain(hash_) == face.plain(fresh), (o.word, sha384)
+        assert (log.place, bytes(log.session)) == (place(o.word, o.resumed), (o.session or b"").ljust(48, b"\x00")), o.word
+        assert [log.kind, log.next, log.sha384, log.left] == kept, o.word
         assert (bytes(log.client), bytes(log.server)) == tuple(o.values.get(side, bytes(12)) for side in "CS"), o.word
 
-    def accept(self, message, resumes=False):
-        return self._keep(face.log_accept(self.log, message, int(resumes)), self.oracle.accept(message, resumes))
+    def accept(self, message, told=Told()):
+        return self._keep(face.log_accept(self.log, message, face.told(told)), self.oracle.accept(message, told))
 
     def finish(self, secret, message):
         return self._keep(face.log_finish(self.log, secret, message), self.oracle.finish(secret, message))
 
-    def feed(self, secret, message, resumes=False):
+    def feed(self, secret, message, told=Told()):
         """Each message by the call that it is for."""
-        return self.finish(secret, message) if message[0] == 20 else self.accept(message, resumes)
+        return self.finish(secret, message) if message[0] == 20 else self.accept(message, told)
 
     def session_hash(self):
         number, value = self.oracle.session_hash()
         answer = face.log_session_hash(self.log)
-        assert (answer.refusal.plain(), face.plain(answer.hash)) == (numbers.refusal(number), value)
+        assert (answer.refusal.plain(), answer.length) == (numbers.refusal(number), len(value))
+        assert bytes(answer.hash) == value.ljust(48, b"\x00")
         return number, value
 
     def expected(self, secret):
@@ -97,7 +114,7 @@ class Pair:
     def state(self):
         """What decides all later answers, for telling situations apart."""
         o = self.oracle
-        return o.word, o.resumed, o.hashed, o.session, o.begun
+        return o.word, o.resumed, o.sha384, o.hashed, o.session, o.begun
 
 
 def body(kind):
@@ -114,24 +131,24 @@ def copied(pair):
     return Pair(type(pair.log).from_buffer_copy(pair.log), o)
 
 
-def after(*kinds, resumes=False):
+def after(*kinds, told=Told()):
     """The log that has accepted messages of these types; a Finished is the one that is due."""
     p = Pair()
     for kind in kinds:
-        assert p.feed(SECRET, p.due() if kind == 20 else some_message(kind), resumes) == 0
+        assert p.feed(SECRET, p.due() if kind == 20 else some_message(kind), told) == 0
     return p
 
 
 def situations():
-    """Every log that can be reached by messages of these types, told and not told of resuming; a due Finished has its value. A
-    refused message leaves the log as it was (that is compared), so orders that differ only in refused messages are one."""
+    """Every log that can be reached by messages of these types, told and not told of resuming and of SHA-384; a due Finished has its
+    value. A refused message leaves the log as it was (that is compared), so orders that differ only in refused messages are one."""
     met, to_follow = {}, [Pair()]
     while to_follow:
         pair = to_follow.pop()
         if pair.state() in met:
             continue
         met[pair.state()] = pair
-        for kind, told in (*((kind, False) for kind in TYPES), (2, True)):
+        for kind, told in (*((kind, Told()) for kind in TYPES), *((2, told) for told in EVERY_TOLD[1:])):
             p = copied(pair)
             p.feed(SECRET, (p.due() if kind == 20 else None) or some_message(kind), told)
             p.session_hash()
@@ -148,27 +165,27 @@ def test_every_order():
     """In every situation every type is given to both calls, with a Finished whose value is wrong."""
     met, steps = situations(), 0
     for pair in met:
-        for kind, told in itertools.product(TYPES, (False, True)):
+        for kind, told in itertools.product(TYPES, EVERY_TOLD):
             steps += 2
             p, message = copied(pair), some_message(kind)
             assert p.finish(SECRET, message) == (8 if kind == 20 and p.due() else 7)
             p.accept(message, told)  # in turn or not, as if it had not been given to the other call
             p.session_hash()
-    complete = {p.oracle.word for p in met if p.oracle.complete}
-    assert len(complete) == 13  # twelve full orders and the resumed one
-    assert complete == {p.oracle.word for p in met if p.oracle.word.endswith(("CS", "SC"))}
-    return f"{steps} steps, {len(met)} situations, orders of up to {max(map(len, complete))} messages"
+    complete = {(p.oracle.word, p.oracle.sha384) for p in met if p.oracle.complete}
+    assert len(complete) == 26  # twelve full orders and the resumed one, with either hash
+    assert complete == {(p.oracle.word, p.oracle.sha384) for p in met if p.oracle.word.endswith(("CS", "SC"))}
+    return f"{steps} steps, {len(met)} situations, orders of up to {max(len(word) for word, _ in complete)} messages"
 
 
 def test_told_counts_only_with_the_server_hello():
     p = Pair()
-    p.accept(hellos.message(1, b"x"), True)
-    p.accept(hellos.message(2, b"y"), False)
+    p.accept(hellos.message(1, b"x"), RESUMES)
+    p.accept(hellos.message(2, b"y"))
     assert p.expected(SECRET)[0] == 7
     p = Pair()
-    p.accept(hellos.message(2, b"y"), True)
+    p.accept(hellos.message(2, b"y"), RESUMES)
     p.accept(hellos.message(1, b"x"))
-    p.accept(hellos.message(2, b"y"), False)
+    p.accept(hellos.message(2, b"y"))
     assert p.expected(SECRET)[0] == 7
 
 
@@ -177,7 +194,7 @@ def test_case_of_document_01():
         not_told, told = Pair(), Pair()
         for p in (not_told, told):
             assert p.accept(hellos.message(1, b"")) == 0
-            assert p.accept(hellos.message(2, b""), p is told) == 0
+            assert p.accept(hellos.message(2, b""), Told(resumes=p is told)) == 0
         for message in (hellos.message(20, bytes(12)), told.due(secret)):
             assert not_told.finish(secret, message) == 7
             assert not_told.accept(message) == told.accept(message) == 7
@@ -193,7 +210,7 @@ def in_turn(r, p, choices=(1, 2, 11, 12, 13, 14, 15, 16)):
     for kind in r.sample(choices, len(choices)):
         trial = copied(p)
         m = hellos.message(kind, r.randbytes(r.choice((0, 1, 40, 300))))
-        if trial.oracle.accept(m, False) == (0, 0):
+        if trial.oracle.accept(m) == (0, 0):
             return m
     return None
 
@@ -202,7 +219,7 @@ def test_long_random_walks():
     r = random.Random(1)
     complete, answered = 0, set()
     for _ in range(250):
-        p, resumed = Pair(), r.random() < 0.4
+        p, told = Pair(), Told(r.random() < 0.4, r.random() < 0.5)
         secrets_ = [r.randbytes(48) for _ in range(2)]
         for _ in range(40):
             way = r.random()
@@ -212,10 +229,10 @@ def test_long_random_walks():
                 if m and r.random() < 0.2:
                     p.finish(secrets_[0], m)
                 if m:
-                    p.accept(m, resumed)
+                    p.accept(m, told)
             elif way < 0.55:
                 m = hellos.damaged(r, hellos.message(r.choice(TYPES), r.randbytes(r.randrange(20))))
-                p.accept(m, r.random() < 0.5)
+                p.accept(m, r.choice(EVERY_TOLD))
                 answered.add(p.finish(secrets_[0], m))
             elif way < 0.6:
                 p.accept(hellos.message(0, b""))
@@ -242,18 +259,19 @@ def test_long_random_walks():
 
 
 def test_longest_messages():
-    p = Pair()
-    for kind in (1, 2, 11, 12, 13, 14, 11, 16, 15):
-        m = hellos.message(kind, bytes([kind]) * (LONGEST - 4))
-        assert p.accept(m + b"\x00") == p.finish(SECRET, m + b"\x00") == 10
-        assert p.finish(SECRET, m) == 7
-        assert p.accept(m) == 0
+    for sha384 in BOTH:
+        p = Pair()
+        for kind in (1, 2, 11, 12, 13, 14, 11, 16, 15):
+            m = hellos.message(kind, bytes([kind]) * (LONGEST - 4))
+            assert p.accept(m + b"\x00") == p.finish(SECRET, m + b"\x00") == 10
+            assert p.finish(SECRET, m) == 7
+            assert p.accept(m, Told(sha384=sha384)) == 0
+            p.session_hash()
+        p.take_due()
+        p.take_due()
+        assert p.oracle.complete
         p.session_hash()
-    p.take_due()
-    p.take_due()
-    assert p.oracle.complete
-    p.session_hash()
-    assert p.accept(hellos.message(1, b"")) == 7
+        assert p.accept(hellos.message(1, b"")) == 7
 
 
 def test_damaged_headers():
@@ -275,11 +293,18 @@ def test_damaged_headers():
 # ---- The Finished
 
 
+def made(pair, secret=SECRET):
+    """verify_data of this moment, under that secret: of either side by either hash, due or not."""
+    return {
+        (side, sha384): secrets.verify_data(sha384, secret, side == "S", secrets.digest(sha384, pair.oracle.hashed))
+        for side, sha384 in itertools.product("CS", BOTH)
+    }
+
+
 def test_accepting_takes_no_finished():
     """Type 20 is 7 to the accepting call in every situation, due or not, equal or not: after 10 and 1."""
     for p in situations():
-        made = [bytes(12), *(p.oracle._value(secret, side) for secret in (SECRET, OTHER) for side in "CS")]
-        for value, told in itertools.product(made, (False, True)):
+        for value, told in itertools.product((bytes(12), *made(p).values(), *made(p, OTHER).values()), (Told(), Told(True, True))):
             assert p.accept(hellos.message(20, value), told) == 7
             for wrong in (value[1:], value + b"\x00", b"", value * 2):
                 assert p.accept(hellos.message(20, wrong), told) == 1
@@ -321,13 +346,16 @@ def beginnings(hashed):
 
 
 def test_only_the_value_that_is_due():
-    """Not the one under another secret, under the other side's label, or of an earlier moment, and no bit of it is without account."""
+    """Not the one under another secret, under the other side's label, by the other hash, or of an earlier moment, and no bit of it is
+    without account."""
     for p in finishing():
-        right, side = p.due(), p.oracle._due()
+        right, due = p.due(), (p.oracle._due(), p.oracle.sha384)
         assert p.finish(OTHER, right) == p.finish(SECRET, p.due(OTHER)) == 8
-        assert p.finish(SECRET, hellos.message(20, p.oracle._value(SECRET, "S" if side == "C" else "C"))) == 8
-        for earlier, server in itertools.product(beginnings(p.oracle.hashed), (False, True)):
-            value = secrets.verify_data(SECRET, server, hashlib.sha256(earlier).digest())
+        assert right[4:] == made(p)[due]
+        for other in (value for of, value in made(p).items() if of != due):
+            assert p.finish(SECRET, hellos.message(20, other)) == 8
+        for earlier, server in itertools.product(beginnings(p.oracle.hashed), BOTH):
+            value = secrets.verify_data(p.oracle.sha384, SECRET, server, secrets.digest(p.oracle.sha384, earlier))
             assert p.finish(SECRET, hellos.message(20, value)) == 8
         for bit in range(8 * len(right)):
             flipped = (int.from_bytes(right, "little") ^ 1 << bit).to_bytes(len(right), "little")
@@ -338,8 +366,8 @@ def test_only_the_value_that_is_due():
 def test_each_finished_once():
     """Of full and resumed orders: the client's or the server's first, then the other, then none."""
     orders = (1, 2, 14, 16), (1, 2, 11, 12, 14, 16), (1, 2, 13, 14, 11, 16), (1, 2, 11, 13, 14, 11, 16, 15), (1, 2)
-    for kinds in orders:
-        p = after(*kinds, resumes=kinds == (1, 2))
+    for kinds, sha384 in itertools.product(orders, BOTH):
+        p = after(*kinds, told=Told(kinds == (1, 2), sha384))
         first = p.due()
         assert p.finish(SECRET, first) == 0 and list(p.oracle.values.items()) == [("S" if kinds == (1, 2) else "C", first[4:])]
         assert p.finish(SECRET, first) == 8 and p.accept(first) == 7 and not p.oracle.complete
@@ -352,11 +380,12 @@ def test_each_finished_once():
 
 def test_two_secrets():
     """Each call has its own: the log keeps none, and a refused one leaves no trace."""
-    p = after(1, 2, 14, 16)
-    assert p.finish(SECRET, p.due(OTHER)) == 8
-    assert p.finish(OTHER, p.due(OTHER)) == 0
-    assert p.finish(OTHER, p.due(SECRET)) == 8
-    assert p.finish(SECRET, p.due(SECRET)) == 0
+    for sha384 in BOTH:
+        p = after(1, 2, 14, 16, told=Told(sha384=sha384))
+        assert p.finish(SECRET, p.due(OTHER)) == 8
+        assert p.finish(OTHER, p.due(OTHER)) == 0
+        assert p.finish(OTHER, p.due(SECRET)) == 8
+        assert p.finish(SECRET, p.due(SECRET)) == 0
 
 
 def test_a_hello_request_changes_nothing():
@@ -373,31 +402,37 @@ def test_a_hello_request_changes_nothing():
 
 
 def test_real_handshakes():
-    """OpenSSL's own: every message in order, the real master secret from the session hash, both Finished on the wire."""
-    for certificate, ems in itertools.product((False, True), (True, False)):
-        full, resumed = full_and_resumed(certificate, ems)
-        for h in (full, resumed):
-            p = Pair()
+    """OpenSSL's own, with suites of both hashes: every message in order, the real master secret from the session hash, both Finished on
+    the wire. A log that is told the other hash refuses them with 8."""
+    seen = {}
+    for suite, certificate, ems in itertools.product(("NULL-SHA256", *SHA384_SUITES), BOTH, BOTH):
+        for h in full_and_resumed(certificate, ems, suite):
+            p, other, told = Pair(), Pair(), Told(h.resumed, h.sha384)
             for _, m in h.messages:
                 if m[0] == 20:
                     assert p.expected(h.master_secret) == (0, m[4:])
-                    assert p.accept(m, h.resumed) == 7 and p.finish(OTHER, m) == 8
+                    assert p.accept(m, told) == 7 and p.finish(OTHER, m) == other.finish(h.master_secret, m) == 8
+                    other.take_due(h.master_secret)
                 else:
                     assert p.finish(h.master_secret, m) == 7
-                assert p.feed(h.master_secret, m, h.resumed) == 0
+                    assert other.accept(m, Told(h.resumed, not h.sha384)) == 0
+                assert p.feed(h.master_secret, m, told) == 0
             assert p.oracle.complete
             number, session_hash = p.session_hash()
-            assert number == (7 if h.resumed else 0)
-            if ems and not h.resumed:
+            assert number == (7 if h.resumed else 0) and len(session_hash) == (0 if h.resumed else 48 if h.sha384 else 32)
+            if ems and h.pre_master:
                 lent = face.lend(bytes(48))
-                assert face.extended_master_secret(h.pre_master, session_hash, lent).number == 0
+                assert face.extended_master_secret(int(h.sha384), h.pre_master, session_hash, lent).number == 0
                 assert bytes(lent) == h.master_secret
-                assert secrets.extended_master_secret(h.pre_master, session_hash, bytes(48))[1] == h.master_secret
+                assert secrets.extended_master_secret(h.sha384, h.pre_master, session_hash, bytes(48))[1] == h.master_secret
+            what = f"{'resumed' if h.resumed else 'full'} with SHA-{384 if h.sha384 else 256}"
+            seen[what] = seen.get(what, 0) + 1
+    return ", ".join(f"{n} {what}" for what, n in seen.items())
 
 
 def test_any_struct_value_ends():
     """A log that no run of calls made: every number is one of the call's, and a refusal changes nothing. Accepting takes no Finished,
-    and the other call only the one that is expected: then its value is one side's, and all but hash and place is as it was."""
+    and the other call only the one that is expected: then its value is one side's, and all but hashes and place is as it was."""
     r = random.Random(3)
     seen = {}
     for _ in range(4000):
@@ -408,7 +443,7 @@ def test_any_struct_value_ends():
         m = hellos.damaged(r, m) if r.random() < 0.2 else m
         m = hellos.message(1, bytes(16_385)) if r.random() < 0.05 else m
         secret = r.choice((SECRET, SECRET[1:]))
-        accepted, finished = face.log_accept(log, m, r.randrange(256)), face.log_finish(log, secret, m)
+        accepted, finished = face.log_accept(log, m, values.some(r, face.Told)), face.log_finish(log, secret, m)
         for call, answer in (("accept", accepted), ("finish", finished)):
             number = answer.refusal.number
             assert answer.refusal.plain() == (numbers.refusal(*Oracle._fault(m)) if number == 1 else numbers.refusal(number))
@@ -422,6 +457,8 @@ def test_any_struct_value_ends():
             kept = (bytes(log.session), bytes(log.client), bytes(log.server))
             now = (bytes(finished.log.session), bytes(finished.log.client), bytes(finished.log.server))
             assert now in ((kept[0], m[4:], kept[2]), (kept[0], kept[1], m[4:])) and finished.log.place != log.place
-        seen.setdefault("session hash", set()).add(face.log_session_hash(log).refusal.number)
+        answer = face.log_session_hash(log)
+        assert answer.length in ((0,) if answer.refusal.number else (32, 48))
+        seen.setdefault("session hash", set()).add(answer.refusal.number)
         seen.setdefault("expected", set()).add(expected.refusal.number)
     assert seen == {"accept": {0, 1, 7, 10}, "finish": {0, 1, 7, 8, 10}, "session hash": {0, 7}, "expected": {0, 7}}, seen

@@ -1,12 +1,13 @@
 """Program `loglist` against the second program, on cases good and bad."""
 
 import copy
+import hashlib
 import itertools
 import pathlib
 import random
 import subprocess
 
-from oracle.log import Log
+from oracle.log import Log, Told
 from oracle.loglist import LIMIT, SECRET, fed, loglist
 from tests import hellos
 from tests.handshakes import full_and_resumed
@@ -63,13 +64,16 @@ def due(log, secret=SECRET):
     return hellos.message(20, log.expected_finished(secret)[1])
 
 
-def handshake(*kinds):
-    """Messages of these types after our ClientHello; a Finished is right under the secret of 48 zero bytes."""
+def handshake(*kinds, sha384=False):
+    """Messages of these types after our ClientHello; a Finished is right under the secret of 48 zero bytes, by that hash."""
     log, messages = Log(), [HELLO]
     log.accept(HELLO)
     for kind in kinds:
         messages.append(due(log) if kind == 20 else hellos.message(kind, bytes([kind]) * 5))
-        assert fed(log, messages[-1]) == (0, 0)
+        if kind == 20:
+            assert log.finish(SECRET, messages[-1]) == (0, 0)
+        else:
+            assert log.accept(messages[-1], Told(sha384=sha384)) == (0, 0)
     return messages
 
 
@@ -85,6 +89,15 @@ def test_both_finished_are_taken():
             assert log_column(agree(case(messages + third))) == ["0"] * len(messages) + ["7", "7", "7", "7", "0"]
             orders += 1
     return f"{orders} orders"
+
+
+def test_it_states_sha_256():
+    """Both Finished made by SHA-384 differ, and so does one of either by the other's transcript."""
+    for kinds in ((2, 14, 16, 20, 20), (2, 11, 12, 13, 14, 11, 16, 15, 20, 20)):
+        right, other = handshake(*kinds), handshake(*kinds, sha384=True)
+        assert right[:-2] == other[:-2]
+        assert log_column(agree(case(other))) == ["0"] * (len(other) - 2) + ["8", "8"]
+        assert log_column(agree(case([*other, *right[-2:]]))) == ["0"] * (len(other) - 2) + ["8", "8", "0", "0"]
 
 
 def test_finished_that_are_refused():
@@ -149,8 +162,13 @@ def test_random_handshakes():
     return f"{complete} of 200 completed"
 
 
+# SHA-256 of all that version 0.8.0, the last one without a choice of hash, wrote to the random cases below
+WRITTEN = "38f141e94c65bf418f1142ba075ca660df669115205af37338bab801f9e9363e"
+
+
 def test_500_random_cases():
-    r = random.Random(1)
+    """Against the second program, and to the byte what was written before order 7."""
+    r, written = random.Random(1), hashlib.sha256()
     kinds = (0, 1, 2, 11, 12, 13, 14, 15, 16, 20, 99)
     for i in range(520):
         messages = []
@@ -168,5 +186,6 @@ def test_500_random_cases():
         data = case(messages)
         if r.random() < 0.25:
             data = r.choice((data[:-1], data + b"\x00", data[: r.randrange(len(data) + 1)], hellos.damaged(r, data)))
-        agree(data)
+        written.update(agree(data).encode())
     agree(case([bytes(16_389)]))
+    assert written.hexdigest() == WRITTEN

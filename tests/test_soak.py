@@ -8,6 +8,7 @@ SEEN = {
     "axle_decide_client": {0, 1, 11, 12},
     "axle_decide_server": {0, 1, 5, 6, 9, 11},
     "axle_extended_master_secret": {0, 10},
+    "axle_hash384_absorb": {0, 10},
     "axle_hash_absorb": {0, 10},
     "axle_log_accept": {0, 1, 7, 10},
     "axle_log_expected_finished": {0, 7},
@@ -27,7 +28,7 @@ SEEN = {
 
 
 def test_a_short_soak():
-    made, numbers = soak(600, 1, calls=30_000)
+    made, numbers = soak(600, 1, calls=36_000)
     for name, least in SEEN.items():
         assert least <= numbers[name], (name, least - numbers[name])
     return f"{made} calls"

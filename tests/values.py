@@ -19,11 +19,13 @@ def length(r):
 # by struct and field
 STEERING = {
     (face.Refusal, "number"): lambda r: r.choice((0, 0, 0, r.randrange(14))),
-    (face.Hash, "length"): length,
+    **{(kind, "length"): length for kind in (face.Hash, face.Hash384)},
+    (face.Transcript, "choice"): lambda r: r.choice((0, 1, 2, 2, r.randrange(256))),
     (face.Row, "size"): lambda r: r.randrange(34),
     (face.Queue, "held"): lambda r: r.randrange(10),
     (face.Log, "place"): lambda r: r.randrange(18),
     (face.Log, "left"): lambda r: r.choice((0, 0, 0, r.randrange(1, 200), r.randrange(16_389), r.randrange(2**16))),
+    **{(face.Told, name): flag for name in ("resumes", "sha384")},
     **{(face.Connection, name): flag for name in ("completed", "indication", "barred")},
     **{(face.Switches, name): flag for name in ("indication_required", "legacy_full", "legacy_resumption")},
     **{(face.Decision, name): flag for name in ("resumes", "ems", "indication", "bar")},

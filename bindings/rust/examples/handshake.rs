@@ -6,7 +6,7 @@
 use axle_gateway::{
     decide_client, decide_server, extended_master_secret, extensions_at, write_client_hello, write_server_hello,
     ClientHelloFields, Connection, Decision, ExtensionList, Log, Offer, Result, Secret, ServerHelloFields, Switches,
-    Table, MESSAGE_MAX, REPLY_MAX,
+    Table, Told, MESSAGE_MAX, REPLY_MAX,
 };
 
 const AXLE: u8 = 3;
@@ -14,6 +14,8 @@ const STRICT: Switches = Switches { indication_required: true, legacy_full: fals
 const PRE_MASTER: [u8; 48] = [42; 48];
 const IDENTIFIER: &[u8] = b"next";
 const SUITE: u16 = 0x003b;
+/// The PRF of that suite is over SHA-256.
+const SHA384: bool = false;
 
 const CERTIFICATE: u8 = 11;
 const HELLO_DONE: u8 = 14;
@@ -59,7 +61,7 @@ fn hellos(log: &mut Log, table: &Table, offer: Option<Offer<'_>>) -> Result<Deci
     let hello = client_hello(offered)?;
     let mut room = [0; REPLY_MAX];
     let (server, reply) = decide_server(&hello, AXLE, table, &fresh, STRICT, &mut room)?;
-    log.accept(&hello, false)?;
+    log.accept(&hello, Told::default())?;
     let answer = if server.resumes() {
         let session = table.look_up(AXLE, offered)?.expect("it resumes");
         server_hello(offered, session.suite, reply)?
@@ -71,7 +73,7 @@ fn hellos(log: &mut Log, table: &Table, offer: Option<Offer<'_>>) -> Result<Deci
         (client.resumes(), client.ems(), client.indication()),
         (server.resumes(), server.ems(), server.indication())
     );
-    log.accept(&answer, server.resumes())?;
+    log.accept(&answer, Told { resumes: server.resumes(), sha384: SHA384 })?;
     println!("{} handshake, {} bytes of reply", if server.resumes() { "resumed" } else { "full" }, reply.len());
     Ok(server)
 }
@@ -79,7 +81,7 @@ fn hellos(log: &mut Log, table: &Table, offer: Option<Offer<'_>>) -> Result<Deci
 /// A long message by parts, of 16 hash blocks at most: what else waits has its turn between them.
 fn feed(log: &mut Log, mut rest: &[u8]) -> Result<()> {
     while !rest.is_empty() {
-        rest = &rest[log.feed(rest, 16, false)?.taken..];
+        rest = &rest[log.feed(rest, 16, Told::default())?.taken..];
     }
     Ok(())
 }
@@ -101,7 +103,7 @@ pub fn main() -> Result<()> {
     let decision = hellos(&mut log, &table, None)?;
     feed(&mut log, &message(CERTIFICATE, &[0; MESSAGE_MAX - 4]))?;
     for kind in [HELLO_DONE, KEY_EXCHANGE] {
-        log.accept(&message(kind, b""), false)?;
+        log.accept(&message(kind, b""), Told::default())?;
     }
     let secret = extended_master_secret(&PRE_MASTER, &log.session_hash()?)?;
     finish(&mut log, &secret)?;

@@ -41,9 +41,44 @@ pub struct Digested {
 
 #[repr(C)]
 #[derive(Clone, Copy)]
+pub struct Hash384 {
+    pub state: [u64; 8],
+    pub tail: [u8; 128],
+    pub length: u64,
+}
+
+#[repr(C)]
+#[derive(Clone, Copy)]
+pub struct Absorbed384 {
+    pub refusal: Refusal,
+    pub hash: Hash384,
+}
+
+#[repr(C)]
+#[derive(Clone, Copy)]
+pub struct Digest384 {
+    pub bytes: [u8; 48],
+}
+
+#[repr(C)]
+#[derive(Clone, Copy)]
+pub struct Digested384 {
+    pub refusal: Refusal,
+    pub digest: [u8; 48],
+}
+
+#[repr(C)]
+#[derive(Clone, Copy)]
 pub struct Tagged {
     pub refusal: Refusal,
     pub tag: [u8; 32],
+}
+
+#[repr(C)]
+#[derive(Clone, Copy)]
+pub struct Tagged384 {
+    pub refusal: Refusal,
+    pub tag: [u8; 48],
 }
 
 #[repr(C)]
@@ -180,15 +215,31 @@ pub struct Cleared {
 
 #[repr(C)]
 #[derive(Clone, Copy)]
+pub struct Transcript {
+    pub sha256: Hash,
+    pub sha384: Hash384,
+    pub choice: u8,
+}
+
+#[repr(C)]
+#[derive(Clone, Copy)]
 pub struct Log {
-    pub hash: Hash,
+    pub hash: Transcript,
     pub place: u8,
-    pub session: [u8; 32],
+    pub session: [u8; 48],
     pub client: [u8; 12],
     pub server: [u8; 12],
     pub kind: u8,
     pub next: u8,
+    pub sha384: u8,
     pub left: u16,
+}
+
+#[repr(C)]
+#[derive(Clone, Copy)]
+pub struct Told {
+    pub resumes: u8,
+    pub sha384: u8,
 }
 
 #[repr(C)]
@@ -200,18 +251,26 @@ pub struct Accepted {
 
 #[repr(C)]
 #[derive(Clone, Copy)]
+pub struct Blocks {
+    pub sha256: usize,
+    pub sha384: usize,
+}
+
+#[repr(C)]
+#[derive(Clone, Copy)]
 pub struct Fed {
     pub refusal: Refusal,
     pub log: Log,
     pub taken: usize,
-    pub blocks: usize,
+    pub blocks: Blocks,
 }
 
 #[repr(C)]
 #[derive(Clone, Copy)]
 pub struct SessionHash {
     pub refusal: Refusal,
-    pub hash: [u8; 32],
+    pub length: u8,
+    pub hash: [u8; 48],
 }
 
 #[repr(C)]
@@ -259,7 +318,7 @@ macro_rules! plain {
     };
 }
 
-plain!(Hash, Absorbed, Table, Stored, Withdrawn, Log, Accepted, Fed, Connection);
+plain!(Hash, Absorbed, Hash384, Absorbed384, Table, Stored, Withdrawn, Log, Accepted, Fed, Connection);
 
 extern "C" {
     pub fn axle_refusal(number: u8) -> Refusal;
@@ -268,9 +327,15 @@ extern "C" {
     pub fn axle_hash_absorb(hash: Hash, bytes: *const u8, length: usize) -> Absorbed;
     pub fn axle_hash_digest(hash: Hash) -> Digest;
     pub fn axle_sha256(message: *const u8, length: usize) -> Digested;
+    pub fn axle_hash384_fresh() -> Hash384;
+    pub fn axle_hash384_absorb(hash: Hash384, bytes: *const u8, length: usize) -> Absorbed384;
+    pub fn axle_hash384_digest(hash: Hash384) -> Digest384;
+    pub fn axle_sha384(message: *const u8, length: usize) -> Digested384;
 
     pub fn axle_hmac(key: *const u8, key_length: usize, message: *const u8, message_length: usize) -> Tagged;
+    pub fn axle_hmac_sha384(key: *const u8, key_length: usize, message: *const u8, message_length: usize) -> Tagged384;
     pub fn axle_extended_master_secret(
+        sha384: u8,
         pre_master: *const u8,
         pre_master_length: usize,
         session_hash: *const u8,
@@ -279,6 +344,7 @@ extern "C" {
         out_length: usize,
     ) -> Refusal;
     pub fn axle_master_secret(
+        sha384: u8,
         pre_master: *const u8,
         pre_master_length: usize,
         randoms: *const u8,
@@ -379,8 +445,8 @@ extern "C" {
     ) -> Decision;
 
     pub fn axle_log_fresh() -> Log;
-    pub fn axle_log_accept(log: Log, message: *const u8, length: usize, resumes: u8) -> Accepted;
-    pub fn axle_log_feed(log: Log, rest: *const u8, length: usize, allowance: usize, resumes: u8) -> Fed;
+    pub fn axle_log_accept(log: Log, message: *const u8, length: usize, told: Told) -> Accepted;
+    pub fn axle_log_feed(log: Log, rest: *const u8, length: usize, allowance: usize, told: Told) -> Fed;
     pub fn axle_log_session_hash(log: Log) -> SessionHash;
     pub fn axle_log_finish(
         log: Log,

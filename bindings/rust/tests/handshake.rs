@@ -18,6 +18,9 @@ const SUITE: u16 = 0x003b;
 
 const LEGACY: Switches = Switches { indication_required: false, legacy_full: true, legacy_resumption: true };
 
+const FULL: Told = Told { resumes: false, sha384: false };
+const RESUMES: Told = Told { resumes: true, sha384: false };
+
 /// A hello without its extension block.
 fn bare(mut hello: Vec<u8>, block: usize) -> Vec<u8> {
     hello.truncate(hello.len() - block);
@@ -83,18 +86,18 @@ fn the_suite_of_a_session() {
 fn the_log_takes_a_finished_that_is_equal() {
     let (secret, other) = (Secret::from([5; 48]), Secret::from([6; 48]));
     let mut log = Log::new();
-    log.accept(&client_hello(b""), false).unwrap();
+    log.accept(&client_hello(b""), FULL).unwrap();
     assert_eq!(log.session_hash(), Err(Refusal::OutOfTurn));
     assert_eq!(log.expected_finished(&secret), Err(Refusal::OutOfTurn));
-    log.accept(&server_hello(b"", b""), true).unwrap();
+    log.accept(&server_hello(b"", b""), RESUMES).unwrap();
     let value = log.expected_finished(&secret).unwrap();
     let finished = [&[20, 0, 0, 12], &value[..]].concat();
-    assert_eq!(log.accept(&finished, false), Err(Refusal::OutOfTurn));
+    assert_eq!(log.accept(&finished, FULL), Err(Refusal::OutOfTurn));
     assert_eq!(log.finish(&other, &finished), Err(Refusal::FinishedDiffers));
     assert_eq!(log.finish(&secret, &[14, 0, 0, 0]), Err(Refusal::OutOfTurn));
     for accepting in [false, true] {
         let mut call =
-            |message: &[u8]| if accepting { log.accept(message, false) } else { log.finish(&secret, message) };
+            |message: &[u8]| if accepting { log.accept(message, FULL) } else { log.finish(&secret, message) };
         assert_eq!(call(&finished[..15]), Err(Refusal::Malformed { place: Some(1) }));
         assert_eq!(call(&[1, 0, 0]), Err(Refusal::Malformed { place: Some(3) }));
         assert_eq!(call(&[20; MESSAGE_MAX + 1]), Err(Refusal::Length));
@@ -108,62 +111,104 @@ fn the_log_takes_a_finished_that_is_equal() {
     assert_eq!(log.finish(&secret, &finished), Err(Refusal::OutOfTurn));
 }
 
-/// A long Certificate by every allowance, beside the single call; between its parts all other calls are refused.
+fn message(kind: u8, body: &[u8]) -> Vec<u8> {
+    [&[kind, 0], &(body.len() as u16).to_be_bytes()[..], body].concat()
+}
+
+/// A long Certificate by many allowances, with either hash, beside the single call; between its parts all other calls are refused.
 #[test]
 fn a_message_by_parts() {
+    for (sha384, block) in [(false, 64), (true, 128)] {
+        by_parts(Told { resumes: false, sha384 }, block);
+    }
+}
+
+fn by_parts(told: Told, block: usize) {
     let secret = Secret::from([5; 48]);
-    let message = |kind, body: &[u8]| [&[kind, 0], &(body.len() as u16).to_be_bytes()[..], body].concat();
     let certificate = message(11, &[9; MESSAGE_MAX - 4]);
     let mut before = Log::new();
-    before.accept(&message(1, &[1; 70]), false).unwrap();
-    before.accept(&message(2, &[2; 81]), false).unwrap();
+    before.accept(&message(1, &[1; 70]), FULL).unwrap();
+    before.accept(&message(2, &[2; 81]), told).unwrap();
     let hashed = 4 + 70 + 4 + 81;
     let session_hash = |mut log: Log| {
-        log.accept(&message(14, b""), false).unwrap();
-        log.accept(&message(16, b"key"), false).unwrap();
+        log.accept(&message(14, b""), FULL).unwrap();
+        log.accept(&message(16, b"key"), FULL).unwrap();
         log.session_hash().unwrap()
     };
     let mut single = before.clone();
-    single.accept(&certificate, false).unwrap();
+    single.accept(&certificate, FULL).unwrap();
     let whole = session_hash(single);
+    assert_eq!((whole.is_sha384(), whole.as_bytes().len()), (told.sha384, if told.sha384 { 48 } else { 32 }));
     for allowance in (1..=ALLOWANCE_MAX).step_by(5) {
         let (mut log, mut rest, mut blocks, mut calls) = (before.clone(), &certificate[..], 0, 0);
         while !rest.is_empty() {
-            let fed = log.feed(rest, allowance, true).unwrap();
-            assert!(fed.taken >= rest.len().min(64) && fed.blocks <= allowance);
-            (rest, blocks, calls) = (&rest[fed.taken..], blocks + fed.blocks, calls + 1);
+            let fed = log.feed(rest, allowance, RESUMES).unwrap();
+            let Blocks { sha256, sha384 } = fed.blocks;
+            let (worked, other) = if told.sha384 { (sha384, sha256) } else { (sha256, sha384) };
+            assert!(fed.taken >= rest.len().min(64) && worked <= allowance && other == 0);
+            (rest, blocks, calls) = (&rest[fed.taken..], blocks + worked, calls + 1);
             if rest.is_empty() {
                 break;
             }
-            assert_eq!(log.feed(rest, 0, false), Err(Refusal::Length));
-            assert_eq!(log.feed(rest, ALLOWANCE_MAX + 1, false), Err(Refusal::Length));
-            assert_eq!(log.feed(&rest[1..], allowance, false), Err(Refusal::Length));
-            assert_eq!(log.accept(&message(0, b""), false), Err(Refusal::OutOfTurn));
-            assert_eq!(log.accept(b"\0\0", false), Err(Refusal::Malformed { place: Some(2) }));
+            assert_eq!(log.feed(rest, 0, FULL), Err(Refusal::Length));
+            assert_eq!(log.feed(rest, ALLOWANCE_MAX + 1, FULL), Err(Refusal::Length));
+            assert_eq!(log.feed(&rest[1..], allowance, FULL), Err(Refusal::Length));
+            assert_eq!(log.accept(&message(0, b""), FULL), Err(Refusal::OutOfTurn));
+            assert_eq!(log.accept(b"\0\0", FULL), Err(Refusal::Malformed { place: Some(2) }));
             assert_eq!(log.finish(&secret, &message(20, &[0; 12])), Err(Refusal::OutOfTurn));
             assert_eq!(log.expected_finished(&secret), Err(Refusal::OutOfTurn));
             assert_eq!(log.session_hash(), Err(Refusal::OutOfTurn));
         }
-        assert_eq!(blocks, (hashed + MESSAGE_MAX) / 64 - hashed / 64);
-        assert_eq!((calls == 1, session_hash(log)), (allowance > 255, whole), "allowance {allowance}");
+        assert_eq!(blocks, (hashed + MESSAGE_MAX) / block - hashed / block);
+        let at_once = block * (allowance + 1) - 1 - hashed % block >= MESSAGE_MAX;
+        assert_eq!((calls == 1, session_hash(log)), (at_once, whole), "allowance {allowance}");
     }
-    assert_eq!(before.feed(&message(0, b""), 1, false), Ok(Fed { taken: 4, blocks: 0 }));
-    assert_eq!(before.feed(&message(20, &[0; 12]), 1, false), Err(Refusal::OutOfTurn));
-    assert_eq!(before.feed(&[11, 0, 0, 1], 1, false), Err(Refusal::Malformed { place: Some(1) }));
-    assert_eq!(before.feed(&message(11, &[0; MESSAGE_MAX]), 1, false), Err(Refusal::Length));
+    assert_eq!(before.feed(&message(0, b""), 1, FULL), Ok(Fed { taken: 4, blocks: Blocks::default() }));
+    assert_eq!(before.feed(&message(20, &[0; 12]), 1, FULL), Err(Refusal::OutOfTurn));
+    assert_eq!(before.feed(&[11, 0, 0, 1], 1, FULL), Err(Refusal::Malformed { place: Some(1) }));
+    assert_eq!(before.feed(&message(11, &[0; MESSAGE_MAX]), 1, FULL), Err(Refusal::Length));
 }
 
-/// What is told counts with the first part of a ServerHello alone.
+/// What is told counts with the first part of a ServerHello alone; both hashes work in all of its parts.
 #[test]
 fn told_with_the_first_part() {
-    for resumes in [false, true] {
+    for (resumes, sha384) in [(false, false), (false, true), (true, false), (true, true)] {
+        let (told, other) = (Told { resumes, sha384 }, Told { resumes: !resumes, sha384: !sha384 });
         let mut log = Log::new();
-        log.accept(&client_hello(b""), !resumes).unwrap();
-        let answer = [&[2, 0, 0, 200][..], &[3; 200]].concat();
-        let fed = log.feed(&answer, 1, resumes).unwrap();
-        assert!(fed.taken < answer.len());
-        log.feed(&answer[fed.taken..], 256, !resumes).unwrap();
+        log.accept(&message(1, &[7; 296]), other).unwrap();
+        let answer = message(2, &[3; 120]);
+        let fed = log.feed(&answer, 1, told).unwrap();
+        assert_eq!(fed, Fed { taken: 83, blocks: Blocks { sha256: 1, sha384: 0 } });
+        let fed = log.feed(&answer[fed.taken..], 1, other).unwrap();
+        assert_eq!(fed, Fed { taken: 41, blocks: Blocks { sha256: 1, sha384: 1 } });
         assert_eq!(log.expected_finished(&Secret::from([5; 48])).is_ok(), resumes);
+        if resumes {
+            continue;
+        }
+        for kind in [14, 16] {
+            log.accept(&message(kind, b""), other).unwrap();
+        }
+        assert_eq!(log.session_hash().unwrap().is_sha384(), sha384);
+    }
+}
+
+/// The same messages by either hash: another session hash, and a Finished that the other log refuses.
+#[test]
+fn either_hash() {
+    let messages = [message(1, b"a"), message(2, b"b"), message(14, b""), message(16, b"c")];
+    let secret = Secret::from([5; 48]);
+    let mut logs = [false, true].map(|sha384| {
+        let mut log = Log::new();
+        messages.iter().for_each(|message| log.accept(message, Told { resumes: false, sha384 }).unwrap());
+        log
+    });
+    let hashed = messages.concat();
+    assert_eq!(logs[0].session_hash(), Ok(SessionHash::Sha256(sha256(&hashed).unwrap())));
+    assert_eq!(logs[1].session_hash(), Ok(SessionHash::Sha384(sha384(&hashed).unwrap())));
+    let finished = [0, 1].map(|i: usize| message(20, &logs[i].expected_finished(&secret).unwrap()));
+    for i in [0, 1] {
+        assert_eq!(logs[i].finish(&secret, &finished[1 - i]), Err(Refusal::FinishedDiffers));
+        logs[i].finish(&secret, &finished[i]).unwrap();
     }
 }
 

@@ -52,8 +52,8 @@ fn places() {
         assert_eq!(read_server_hello(&message), Err(malformed(0)), "the type");
         assert_eq!(decide(&message, 1), Err(refused));
         assert_eq!(decide(&message, 7), Err(Refusal::AxleOrIdentifier));
-        assert_eq!(Log::new().accept(&message, false), Ok(()), "the log does not read it");
-        assert_eq!(Log::new().accept(&message[1..], false), Err(malformed(1)));
+        assert_eq!(Log::new().accept(&message, Told::default()), Ok(()), "the log does not read it");
+        assert_eq!(Log::new().accept(&message[1..], Told::default()), Err(malformed(1)));
     }
     let (fresh, switches) = (Connection::new(), Switches::default());
     assert_eq!(decide_client(&[2, 0, 0], None, &fresh, switches).unwrap_err(), malformed(3));

@@ -32,9 +32,15 @@ fn marked_hash() -> Hash {
     hash
 }
 
+fn marked_hash384() -> Hash384 {
+    let mut hash = Hash384::new();
+    hash.absorb(&[MARK; 127]).unwrap();
+    hash
+}
+
 fn marked_log() -> Log {
     let mut log = Log::new();
-    log.accept(&[&[1, 0, 0, 50][..], &[MARK; 50]].concat(), false).unwrap();
+    log.accept(&[&[1, 0, 0, 50][..], &[MARK; 50]].concat(), Told::default()).unwrap();
     log
 }
 
@@ -53,9 +59,10 @@ fn dropped_values_are_zeros() {
     assert!(zeros(left_by(marked_table())));
     assert!(zeros(left_by(marked_table().clone())));
     assert!(zeros(left_by(marked_hash())));
+    assert!(zeros(left_by(marked_hash384())));
     assert!(zeros(left_by(marked_log())));
     let mut between_parts = Log::new();
-    between_parts.feed(&[&[1, 0, 0, 200][..], &[MARK; 200]].concat(), 1, false).unwrap();
+    between_parts.feed(&[&[1, 0, 0, 200][..], &[MARK; 200]].concat(), 1, Told::default()).unwrap();
     assert!(zeros(left_by(between_parts)));
     assert!(zeros(left_by(Connection::new())));
     let session = marked_table().look_up(1, &[MARK; 32]).unwrap().unwrap();
@@ -100,12 +107,12 @@ fn debug_shows_no_secret() {
     let table = marked_table();
     let session = table.look_up(1, &[MARK; 32]).unwrap().unwrap();
     let secret = Secret::from(SECRET);
-    let (hash, log, connection) = (marked_hash(), marked_log(), Connection::new());
+    let (hash, hash384, log, connection) = (marked_hash(), marked_hash384(), marked_log(), Connection::new());
     let list = marked_list();
-    let all: [&dyn Debug; 8] = [&table, &session, &secret, &hash, &log, &connection, &list, &list.lists()];
+    let all: [&dyn Debug; 9] = [&table, &session, &secret, &hash, &hash384, &log, &connection, &list, &list.lists()];
     let text = format!("{all:?} {all:#?}");
     assert!(!text.contains("199") && !text.to_lowercase().contains("c7"), "{text}");
     assert_eq!(format!("{session:?}"), format!("Session {{ ems: true, suite: {MARKS}, secret: Secret(..) }}"));
-    assert_eq!(format!("{hash:?} {log:?}"), "Hash { .. } Log { .. }");
+    assert_eq!(format!("{hash:?} {hash384:?} {log:?}"), "Hash { .. } Hash384 { .. } Log { .. }");
     assert_eq!(format!("{connection:?}"), "Connection { completed: false, indication: false, barred: false, .. }");
 }

@@ -8,15 +8,26 @@ fn rfc_4231() {
     let hex: String = tag.iter().map(|b| format!("{b:02x}")).collect();
     assert_eq!(hex, "5bdcc146bf60754e6a042426089575c75a003f089d2739839dec58b964ec3843");
     assert_eq!(hmac(&[0; HMAC_MAX + 1], b""), Err(Refusal::Length));
+    let tag = hmac_sha384(b"Jefe", b"what do ya want for nothing?").unwrap();
+    let hex: String = tag.iter().map(|b| format!("{b:02x}")).collect();
+    assert_eq!(hex, "af45d2e376484031617f78d2b58a6b1b9c7ef464f5a01b47e42ec3736322445e8e2240ca5e69e2c78b3239ecfab21649");
+    assert_eq!(hmac_sha384(b"", &[0; HMAC_MAX + 1]), Err(Refusal::Length));
 }
 
 #[test]
 fn master_secrets_differ_and_refuse() {
-    let extended = extended_master_secret(&[1], &[2; 32]).unwrap();
-    let legacy = master_secret(&[1], &[2; 32], &[2; 32]).unwrap();
-    assert_ne!(extended.as_bytes(), legacy.as_bytes());
-    assert_eq!(extended_master_secret(&[], &[2; 32]).unwrap_err(), Refusal::Length);
-    assert_eq!(master_secret(&[0; PRE_MASTER_MAX + 1], &[2; 32], &[2; 32]).unwrap_err(), Refusal::Length);
+    let hashes = [SessionHash::Sha256([2; 32]), SessionHash::Sha384([2; 48])];
+    let mut all = Vec::new();
+    for hash in &hashes {
+        all.push(extended_master_secret(&[1], hash).unwrap());
+        all.push(master_secret(hash.is_sha384(), &[1], &[2; 32], &[2; 32]).unwrap());
+        assert_eq!(extended_master_secret(&[], hash).unwrap_err(), Refusal::Length);
+        let too_long = master_secret(hash.is_sha384(), &[0; PRE_MASTER_MAX + 1], &[2; 32], &[2; 32]);
+        assert_eq!(too_long.unwrap_err(), Refusal::Length);
+    }
+    for (i, one) in all.iter().enumerate() {
+        assert!(all[..i].iter().all(|other| other.as_bytes() != one.as_bytes()));
+    }
 }
 
 #[test]

@@ -18,6 +18,8 @@ use Rattle.hello.specs.Written.{writtenList, writtenBlock}
 use Rattle.decision.specs.Connection.{closed, wrongFirst, decided, decision}
 use Rattle.decision.specs.Reply.{replyList, replyOf}
 use Rattle.decision.specs.Server.{onOffer, sessionIn, serverWrong, serverFlag, resumable, serverOutcome, serverReply, serverNumber, serverDecision}
+use Rattle.transcript.specs.Choice.{Algorithm}
+use Rattle.log.specs.Told.{Told, resuming}
 use Rattle.log.specs.Order.{turns, isDue, look, finishedDue}
 use Rattle.log.specs.History.{tells, placeOf, hashed}
 use Rattle.log.specs.Standing.{historyOf}
@@ -35,10 +37,11 @@ unfolding firstOf
 by-value true = refl
 by-value false = refl
 
-fed-finished : (told resumes : Bool) (value : List ℕ) → length value ≡ 12 → acceptNumber (greeted told) (message 20 value) resumes ≡ 7
+fed-finished : (resumes : Bool) (hash : Algorithm) (tell : Told) (value : List ℕ) → length value ≡ 12
+    → acceptNumber (greeted (record { resumes = resumes; hash = hash })) (message 20 value) tell ≡ 7
 unfolding firstOf byteAt pairAt tripleAt kindOf bodyOf overlong cutOff misstated turns isDue look tells placeOf wrongBody misshapen outOfTurn isFinished acceptNumber afterAccept
-fed-finished true resumes value e = rw e
-fed-finished false resumes value e = rw e
+fed-finished true hash tell value e = rw e
+fed-finished false hash tell value e = rw e
 
 pub cases : Cases
 unfolding firstOf firstFault refusalOf refusalAt same byteAt pairAt tripleAt kindOf bodyOf overlong cutOff misstated otherKind big field counted vector shaped extension listOf extensionsOf has twice contentOf indicationOf opening closing clientLayout lists helloFault readClient writtenList writtenBlock closed wrongFirst decided decision replyList replyOf onOffer sessionIn serverWrong serverFlag resumable serverOutcome serverReply serverNumber serverDecision turns isDue look finishedDue tells placeOf hashed wrongBody misshapen outOfTurn isFinished acceptNumber afterAccept expectedNumber finishNumber book.many book.oldest book.strike book.isOf book.isName book.isNamed book.fuller book.fullest book.struck book.written book.badAxle book.badName book.badSecret book.storeNumber book.after book.bookFrom numbersFrom heldBy
@@ -53,11 +56,11 @@ cases =
       ems-new = refl;
       flag-clear = refl;
       early-greeted = refl;
-      early-finished = λ secret value e f. rw (e, f);
-      early-expected = λ secret e. rw e;
-      told-expected = λ secret e. rw e;
-      told-finished = λ secret value e f. rw (e, f) (by-value (same value (expectedValue (historyOf (greeted true)) secret)));
-      fed-finished = fed-finished;
+      early-finished = λ hash secret value e f. rw (e, f);
+      early-expected = λ hash secret e. rw e;
+      told-expected = λ hash secret e. rw e;
+      told-finished = λ hash secret value e f. rw (e, f) (by-value (same value (expectedValue (historyOf (greeted (resuming hash))) secret)));
+      fed-finished = λ first. fed-finished (first .resumes) (first .hash);
       type-0-first = refl;
       type-0-hashed = refl;
       nine = refl;

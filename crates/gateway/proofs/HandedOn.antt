@@ -72,7 +72,7 @@ client-hands-on m i l c s d r w e y =
     g .1 ∙ ap₂ refusalAt (f .3) (ap faultPlace (f .2)) ∙ sym q
 
 pub log-hands-on : LogHandsOn
-log-hands-on log log′ secret m resumes r r′ a f y y′ = a .placed ∙ ap (λ (n : ℕ). refusalAt n (brokenAt m)) (y ∙ sym y′) ∙ sym (f .placed)
+log-hands-on log log′ secret m tell r r′ a f y y′ = a .placed ∙ ap (λ (n : ℕ). refusalAt n (brokenAt m)) (y ∙ sym y′) ∙ sym (f .placed)
 
 pub part-hands-on : PartHandsOn
-part-hands-on log log′ m k resumes r r′ a f y y′ = a .placed ∙ ap (λ (n : ℕ). refusalAt n (brokenAt m)) (y ∙ sym y′) ∙ sym (f .placed)
+part-hands-on log log′ m k tell r r′ a f y y′ = a .placed ∙ ap (λ (n : ℕ). refusalAt n (brokenAt m)) (y ∙ sym y′) ∙ sym (f .placed)

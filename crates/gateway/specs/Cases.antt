@@ -20,6 +20,9 @@ use Rattle.decision.specs.Server.{sessionIn, serverNumber, serverDecision}
 use Rattle.decision.specs.declared.connection.Connection.{Connection}
 use Rattle.decision.specs.declared.connection.Switches.{Switches}
 use Rattle.decision.specs.declared.connection.Decision.{Decision}
+use Rattle.transcript.specs.Choice.{Algorithm}
+use Rattle.transcript.specs.Choice.Algorithm.{sha-256}
+use Rattle.log.specs.Told.{Told, full, resuming}
 use Rattle.log.specs.History.History.{fresh}
 use Rattle.log.specs.Standing.{Standing, historyOf, entered}
 use Rattle.log.specs.Standing.Standing.{whole}
@@ -110,14 +113,14 @@ decisionOn m b c s = serverDecision 1 (readClient m) (sessionIn 1 (readClient m)
 
 -- ---- the log
 
--- the numbers of messages that are fed one after the other to the accepting call, from fresh, never told of resuming
+-- the numbers of messages that are fed one after the other to the accepting call, from fresh, never told of resuming or of SHA-384
 unfoldable pub numbersFrom : Standing → List (List ℕ) → List ℕ
 numbersFrom s [] = []
-numbersFrom s (m ∷ ms) = acceptNumber s m false ∷ numbersFrom (afterAccept s m false) ms
+numbersFrom s (m ∷ ms) = acceptNumber s m (full sha-256) ∷ numbersFrom (afterAccept s m (full sha-256)) ms
 
--- 1, 2, told with the second whether it resumes
-abbrev pub greeted : Bool → Standing
-greeted resumes = afterAccept (afterAccept (whole fresh) (message 1 []) false) (message 2 []) resumes
+-- 1, 2, told this with the second
+abbrev pub greeted : Told → Standing
+greeted tell = afterAccept (afterAccept (whole fresh) (message 1 []) (full sha-256)) (message 2 []) tell
 
 -- ---- the table
 
@@ -155,18 +158,19 @@ pub record Cases : Type 0 where
   pub flag-clear : numberOn emsHello empty (connection 1 0) (legacy 1) ≡ 9
   -- 'log 1, 2, 20 not told it resumes: 7 at the third': by order 6's joined call, whatever the secret and whatever the value.
   pub early-greeted : numbersFrom (whole fresh) (message 1 [] ∷ message 2 [] ∷ []) ≡ 0 ∷ 0 ∷ []
-  pub early-finished : (secret value : List ℕ) → length secret ≡ 48 → length value ≡ 12
-      → finishNumber (greeted false) secret (message 20 value) ≡ 7
+  pub early-finished : (hash : Algorithm) (secret value : List ℕ) → length secret ≡ 48 → length value ≡ 12
+      → finishNumber (greeted (full hash)) secret (message 20 value) ≡ 7
   -- None is due there. Where it was told, one is, and the value decides.
-  pub early-expected : (secret : List ℕ) → length secret ≡ 48 → expectedNumber (greeted false) secret ≡ 7
-  pub told-expected : (secret : List ℕ) → length secret ≡ 48 → expectedNumber (greeted true) secret ≡ 0
-  pub told-finished : (secret value : List ℕ) → length secret ≡ 48 → length value ≡ 12
-      → finishNumber (greeted true) secret (message 20 value) ≡ pick (same value (expectedValue (historyOf (greeted true)) secret)) 0 8
+  pub early-expected : (hash : Algorithm) (secret : List ℕ) → length secret ≡ 48 → expectedNumber (greeted (full hash)) secret ≡ 7
+  pub told-expected : (hash : Algorithm) (secret : List ℕ) → length secret ≡ 48 → expectedNumber (greeted (resuming hash)) secret ≡ 0
+  pub told-finished : (hash : Algorithm) (secret value : List ℕ) → length secret ≡ 48 → length value ≡ 12
+      → finishNumber (greeted (resuming hash)) secret (message 20 value)
+      ≡ pick (same value (expectedValue (historyOf (greeted (resuming hash))) secret)) 0 8
   -- Fed otherwise it is 7, told or not.
-  pub fed-finished : (told resumes : Bool) (value : List ℕ) → length value ≡ 12 → acceptNumber (greeted told) (message 20 value) resumes ≡ 7
+  pub fed-finished : (first tell : Told) (value : List ℕ) → length value ≡ 12 → acceptNumber (greeted first) (message 20 value) tell ≡ 7
   -- 'type 0 first leaves the hash empty.'
   pub type-0-first : numbersFrom (whole fresh) (message 0 [] ∷ []) ≡ 0 ∷ []
-  pub type-0-hashed : entered (afterAccept (whole fresh) (message 0 []) false) ≡ []
+  pub type-0-hashed : entered (afterAccept (whole fresh) (message 0 []) (full sha-256)) ≡ []
   -- 'axle 1 stores nine different identifiers into an empty table: holds 8, the first is gone.'
   pub nine : heldBy (stores 1 0 9) ≡ 8 ∷ 0 ∷ 0 ∷ 0 ∷ 0 ∷ 0 ∷ []
   pub first-gone : sought 1 (0 ∷ []) (bookFrom empty (stores 1 0 9)) ≡ none

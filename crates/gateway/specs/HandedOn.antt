@@ -2,7 +2,7 @@
 -- proofs/HandedOn.antt; that each can answer so is computed in the table of specs/Places.antt.
 -- Assumes nothing.
 use mathlib.Core.Path.{_≡_}
-use mathlib.Core.Bool.{Bool, true}
+use mathlib.Core.Bool.{true}
 use mathlib.Core.List.{List}
 use mathlib.Core.Option.{Option}
 use Prim.Native.Nat.{ℕ}
@@ -15,6 +15,7 @@ use Rattle.decision.specs.Client.{Lent, clientDecision}
 use Rattle.decision.specs.declared.connection.Connection.{Connection}
 use Rattle.decision.specs.declared.connection.Switches.{Switches}
 use Rattle.decision.specs.declared.connection.Decision.{Decision}
+use Rattle.log.specs.Told.{Told}
 use Rattle.log.specs.Promise.{Accepts, Finishes, Feeds}
 use Rattle.log.specs.declared.state.Log.{Log}
 use Rattle.log.specs.declared.answers.Accepted.{Accepted}
@@ -41,10 +42,10 @@ ClientHandsOn =
 -- The calls of the log answer a malformed message alike, whatever logs they are passed; that by allowance where it lends a first part.
 abbrev pub LogHandsOn : Type 0
 LogHandsOn =
-    (log log′ : Log) (secret m : List ℕ) (resumes : Bool) (r r′ : Accepted) → Accepts log m resumes r → Finishes log′ secret m r′
+    (log log′ : Log) (secret m : List ℕ) (tell : Told) (r r′ : Accepted) → Accepts log m tell r → Finishes log′ secret m r′
     → r .refusal .number ≡ 1 → r′ .refusal .number ≡ 1 → r .refusal ≡ r′ .refusal
 
 abbrev pub PartHandsOn : Type 0
 PartHandsOn =
-    (log log′ : Log) (m : List ℕ) (k : ℕ) (resumes : Bool) (r : Accepted) (r′ : Fed) → Accepts log m resumes r → Feeds log′ m k resumes r′
+    (log log′ : Log) (m : List ℕ) (k : ℕ) (tell : Told) (r : Accepted) (r′ : Fed) → Accepts log m tell r → Feeds log′ m k tell r′
     → r .refusal .number ≡ 1 → r′ .refusal .number ≡ 1 → r .refusal ≡ r′ .refusal

@@ -3,7 +3,6 @@
 -- computation in proofs/Places.antt.
 -- Assumes nothing.
 use mathlib.Core.Path.{_≡_}
-use mathlib.Core.Bool.{false}
 use mathlib.Core.List.{List, [], _∷_, _++_}
 use mathlib.Core.Option.{none}
 use Prim.Native.Nat.{ℕ}
@@ -12,6 +11,8 @@ use Rattle.refusal.specs.Table.{refusalAt}
 use Rattle.hello.specs.Fields.{fault, readClient, readServer}
 use Rattle.decision.specs.Server.{serverDecision}
 use Rattle.decision.specs.Client.{clientDecision}
+use Rattle.transcript.specs.Choice.Algorithm.{sha-256}
+use Rattle.log.specs.Told.{full}
 use Rattle.log.specs.History.History.{fresh}
 use Rattle.log.specs.Standing.Standing.{whole}
 use Rattle.log.specs.Calls.{acceptNumber, brokenAt}
@@ -29,7 +30,7 @@ ServerRow m n p = (readServer m ≡ fault n p) × (clientDecision (readServer m)
 
 abbrev pub LogRow : List ℕ → ℕ → ℕ → Type 0
 LogRow m n p =
-    (refusalAt (acceptNumber (whole fresh) m false) (brokenAt m) ≡ refusalAt n p)
+    (refusalAt (acceptNumber (whole fresh) m (full sha-256)) (brokenAt m) ≡ refusalAt n p)
     × (refusalAt (finishNumber (whole fresh) (replicate 48 0) m) (brokenAt m) ≡ refusalAt n p)
 
 -- ---- the messages

@@ -2,6 +2,7 @@
 mod completion;
 mod decisions;
 mod hash;
+mod hash384;
 mod hellos;
 mod logs;
 mod refusals;

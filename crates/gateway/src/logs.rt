@@ -1,5 +1,5 @@
 // The message log (document 01).
-ghost use Rattle.seqs.specs.Flag.{yes};
+ghost use Rattle.log.specs.Told.{toldOf};
 ghost use Rattle.log.specs.History.History.{fresh};
 ghost use Rattle.log.specs.Standing.Standing.{whole};
 ghost use Rattle.log.specs.Stands.{Stands};
@@ -9,6 +9,7 @@ use log::Expected;
 use log::Fed;
 use log::Log;
 use log::SessionHash;
+use log::Told;
 
 #[no_mangle]
 pub extern "C" fn axle_log_fresh() -> Log
@@ -18,17 +19,17 @@ pub extern "C" fn axle_log_fresh() -> Log
 }
 
 #[no_mangle]
-pub extern "C" fn axle_log_accept(log: Log, message: &[u8], resumes: u8) -> Accepted
-    ensures { λ r. ⌜ Accepts log (now (message .entry)) (yes resumes) r ⌝ }
+pub extern "C" fn axle_log_accept(log: Log, message: &[u8], told: Told) -> Accepted
+    ensures { λ r. ⌜ Accepts log (now (message .entry)) (toldOf told) r ⌝ }
 {
-    log.accept(message, resumes != 0)
+    log.accept(message, told)
 }
 
 #[no_mangle]
-pub extern "C" fn axle_log_feed(log: Log, rest: &[u8], allowance: usize, resumes: u8) -> Fed
-    ensures { λ r. ⌜ Feeds log (now (rest .entry)) allowance (yes resumes) r ⌝ }
+pub extern "C" fn axle_log_feed(log: Log, rest: &[u8], allowance: usize, told: Told) -> Fed
+    ensures { λ r. ⌜ Feeds log (now (rest .entry)) allowance (toldOf told) r ⌝ }
 {
-    log.feed(rest, allowance, resumes != 0)
+    log.feed(rest, allowance, told)
 }
 
 #[no_mangle]

@@ -1,11 +1,12 @@
 -- Which call a message goes to, and what the log answers there.
 -- Assumes nothing.
 use mathlib.Core.Path.{_≡_}
-use mathlib.Core.Bool.{false}
 use mathlib.Core.List.{List}
 use Prim.Native.Nat.{ℕ}
 use borrow.Author.Tests.{eq-eqb, ne-eqb}
 use Rattle.message.specs.Frame.{kindOf}
+use Rattle.transcript.specs.Choice.Algorithm.{sha-256}
+use Rattle.log.specs.Told.{full}
 use Rattle.log.specs.Calls.{isFinished}
 use Rattle.log.specs.Promise.{Accepts, Finishes}
 use Rattle.log.specs.declared.state.Log.{Log}
@@ -24,7 +25,7 @@ module _ (log : Log) (m : List ℕ) (r : Accepted) where
         stands = λ h s. rw (eq-eqb (kindOf m) 20 k) (f .stands h s);
       }
 
-  pub other-takes : (kindOf m ≡ 20 → ⊥) → Accepts log m false r → Takes log m r
+  pub other-takes : (kindOf m ≡ 20 → ⊥) → Accepts log m (full sha-256) r → Takes log m r
   unfolding isFinished logNumber logRefusal logAfter
   other-takes k a =
       record {

@@ -1,6 +1,6 @@
 -- Document 01, 'Program loglist': all that it prints.
 -- Assumes nothing.
-use mathlib.Core.Bool.{false, _&&_}
+use mathlib.Core.Bool.{_&&_}
 use mathlib.Core.List.{List, [], _∷_, _++_}
 use Prim.Native.Nat.{ℕ, _+_}
 use lib.Dec.{eqb}
@@ -9,6 +9,8 @@ use Rattle.seqs.specs.Pick.{pick}
 use Rattle.refusal.specs.Table.{refusalAt}
 use Rattle.refusal.specs.declared.Refusal.{Refusal}
 use Rattle.message.specs.Frame.{kindOf}
+use Rattle.transcript.specs.Choice.Algorithm.{sha-256}
+use Rattle.log.specs.Told.{full}
 use Rattle.log.specs.History.History.{fresh}
 use Rattle.log.specs.Standing.{Standing}
 use Rattle.log.specs.Standing.Standing.{whole}
@@ -54,10 +56,10 @@ helloColumn n m = pick (eqb n 0 && eqb (kindOf m) 1) (answerOf (decisionRefusal 
 abbrev pub zeroSecret : List ℕ
 zeroSecret = replicate 48 0
 
--- 'It feeds a fresh log never told of resuming', a Finished by the joined call and every other message by the accepting one: the log's
--- number for a message
+-- 'It feeds a fresh log never told of resuming' (and order 7: '`loglist` states SHA-256'), a Finished by the joined call and every other
+-- message by the accepting one: the log's number for a message
 unfoldable pub logNumber : Standing → List ℕ → ℕ
-logNumber s m = pick (isFinished m) (finishNumber s zeroSecret m) (acceptNumber s m false)
+logNumber s m = pick (isFinished m) (finishNumber s zeroSecret m) (acceptNumber s m (full sha-256))
 
 -- and its answer: the place is that where the message broke
 unfoldable pub logRefusal : Standing → List ℕ → Refusal
@@ -65,7 +67,7 @@ logRefusal s m = refusalAt (logNumber s m) (brokenAt m)
 
 -- 'A refused message is passed over and the next one fed.'
 unfoldable pub logAfter : Standing → List ℕ → Standing
-logAfter s m = pick (isFinished m) (afterFinish s zeroSecret m) (afterAccept s m false)
+logAfter s m = pick (isFinished m) (afterFinish s zeroSecret m) (afterAccept s m (full sha-256))
 
 -- the line of message i
 unfoldable pub lineFor : ℕ → Standing → List ℕ → List ℕ

@@ -6,6 +6,7 @@ use decision::Switches;
 use decision::decide_server;
 use log::Accepted;
 use log::Log;
+use log::Told;
 use message::byte;
 use refusal::Refusal;
 use sessions::Table;
@@ -81,7 +82,8 @@ fn hello(number: u8, message: &[u8]) -> Column
     answer(decide(message))
 }
 
-// What the log answers to a message: a Finished is checked under a secret of zeros, and all others are accepted.
+// What the log answers to a message: a Finished is checked under a secret of zeros, and all others are accepted, of a full handshake with
+// SHA-256.
 fn take(log: Log, message: &[u8]) -> Accepted
     ensures { λ r. ⌜ Takes log (now (message .entry)) r ⌝ }
 {
@@ -89,7 +91,11 @@ fn take(log: Log, message: &[u8]) -> Accepted
         let secret = [0u8; 48];
         return log.finish(&secret, message);
     }
-    log.accept(message, false)
+    let told = Told {
+        resumes: 0,
+        sha384: 0,
+    };
+    log.accept(message, told)
 }
 
 // The line of a message, and the log after it.

@@ -18,11 +18,13 @@ use Rattle.octets.specs.Same.{same}
 use Rattle.seqs.specs.Cases.{by-test, not-both}
 use Rattle.octets.specs.Equal.{same-true}
 use Rattle.message.specs.Frame.{kindOf, bodyOf, overlong, misstated}
-use Rattle.sha256.specs.Sha256.{sha256}
+use Rattle.transcript.specs.Choice.{Algorithm}
+use Rattle.transcript.specs.Carries.{digestOf}
 use Rattle.prf.specs.Promise.{verifyNumber, verifiedOf}
 use Rattle.prf.specs.declared.secrets.Verified.{Verified}
+use Rattle.log.specs.Suite.{functionOf}
 use Rattle.log.specs.Order.{Place, turns, look, finishedDue}
-use Rattle.log.specs.History.{History, tells, placeOf, hashed, fromServer, isFrom}
+use Rattle.log.specs.History.{History, tells, placeOf, hashed, choiceOf, suiteOf, fromServer, isFrom}
 use Rattle.log.specs.History.Beside.{under}
 use Rattle.log.specs.Standing.{Standing, Part, historyOf, between}
 use Rattle.log.specs.Standing.Standing.{whole, parted}
@@ -36,15 +38,16 @@ use Rattle.log.specs.declared.state.Log.{Log}
 use Rattle.log.specs.declared.answers.Accepted.{Accepted}
 use Rattle.log.specs.declared.answers.Expected.{Expected}
 use Rattle.log.proofs.Messages.{Fine, fine, shape-most}
+use Rattle.log.proofs.Chosen.{hash-stands}
 use Rattle.log.proofs.Standing.{by-whole, by-parted, far, carried, taking-stands}
 
 -- verify_data of the Finished that is due, from what the calls answer
-pub expected-by : (h : History) (secret hash : List ℕ) (b : Bool) (r : Verified) → length secret ≡ 48
-    → r ≡ verifiedOf secret b hash → b ≡ fromServer h → hash ≡ sha256 (hashed h)
+pub expected-by : (h : History) (secret hash : List ℕ) (b : Bool) (a : Algorithm) (r : Verified) → length secret ≡ 48
+    → r ≡ verifiedOf (functionOf a) secret b hash → b ≡ fromServer h → suiteOf h ≡ a → hash ≡ digestOf a (hashed h)
     → r .value ≡ expectedValue h secret
 unfolding expectedValue verifiedOf verifyNumber firstOf
-expected-by h secret hash b r n e f g =
-    ap (λ (x : Verified). x .value) e ∙ (rw (eq-eqb (length secret) 48 n, ← f, ← g))
+expected-by h secret hash b a r n e f i g =
+    ap (λ (x : Verified). x .value) e ∙ (rw (eq-eqb (length secret) 48 n, ← f, i, ← g))
 
 -- is a Finished due, as the log has it: between parts none is
 abbrev pub Due : Log → Bool → Type 0
@@ -195,28 +198,28 @@ module _ (log : Log) (secret m : List ℕ) where
             go (parted h p) st = absurd (due-not-between log b w (not-false b x) h p st)
 
 -- the log that has taken a Finished: the message has entered, and the value stands with its side
-module _ (log : Log) (m value : List ℕ) (q : ℕ) (r : Log) (worked : ℕ) (x : Entered log m 20 q 0 r worked)
+module _ (log : Log) (m value : List ℕ) (q : ℕ) (r : Log) (worked : Algorithm → ℕ) (x : Entered log m 20 q 0 0 r worked)
     (e : (p : Place) → log .place ≡ number p → q ≡ number (look 20 (turns false p)))
     (b : Bool) (w : (h : History) → Placed (log .place) h → b ≡ fromServer h) where
   in-turn : (h : History) (secret : List ℕ) → Stands log (whole h) → length m ≤ 16388 → finishedDue (placeOf h) ≡ true → kindOf m ≡ 20
-      → InTurn h m (under secret) 20 q
+      → InTurn h m (under secret) 20 q 0
   unfolding tells finishedDue
   in-turn h secret s l d k =
-      record { kind = sym k; hashed = λ z. omega arith; place = rw k (e (placeOf h) (s .place .number)); due = rw k d; size = l }
+      record { kind = sym k; hashed = λ z. omega arith; place = rw k (e (placeOf h) (s .place .number)); told = refl; due = rw k d; size = l }
 
   takes-by : (value₁ value₂ : List ℕ) → value₁ ≡ pick b (log .client) value → value₂ ≡ pick b value (log .server)
       → Takes log m value
-      (record { hash = r .hash; place = r .place; session = r .session; client = value₁; server = value₂; kind = r .kind; next = r .next; left = r .left })
+      (record { hash = r .hash; place = r .place; session = r .session; client = value₁; server = value₂; kind = r .kind; next = r .next; sha384 = r .sha384; left = r .left })
   unfolding isFrom Compared
   takes-by value₁ value₂ f g h secret s l d c v =
       let t = in-turn h secret s l d (c .kind) in
       let y = x .last refl in
-      let i = carried log (whole h) [] m s (sym (append-nil (hashed h))) l (far log (whole h) m (under secret) 20 q s t) (r .hash) worked (x .hash) in
-      taking-stands log (whole h) m (under secret) 20 q s t
-      (record { hash = r .hash; place = r .place; session = r .session; client = value₁; server = value₂; kind = r .kind; next = r .next; left = r .left })
-      i (y .0) (x .session refl (hashed h ++ m) i)
+      let i = carried log (whole h) [] m s (sym (append-nil (hashed h))) l (far log (whole h) m (under secret) 20 q 0 s t) (x .hash) worked (x .enters) in
+      taking-stands log (whole h) m (under secret) 20 q 0 s t
+      (record { hash = r .hash; place = r .place; session = r .session; client = value₁; server = value₂; kind = r .kind; next = r .next; sha384 = r .sha384; left = r .left })
+      (hash-stands log (whole h) m m (hashed h ++ m) (under secret) 20 q 0 r worked s t x i) (y .0) (x .session refl (choiceOf h) (hashed h ++ m) i)
       (f ∙ (rw (v, w h (s .place)) (clients (fromServer h)))) (g ∙ (rw (v, w h (s .place))))
-      (record { kind = y .1 .kind; next = y .1 .next; left = y .1 .left }) (c, s .compared)
+      (record { kind = y .1 .kind; next = y .1 .next; sha384 = y .1 .sha384; left = y .1 .left }) (c, s .compared)
     where
       clients : (x : Bool) → pick x (log .client) value ≡ pick (not x) value (log .client)
       clients true = refl
@@ -224,12 +227,12 @@ module _ (log : Log) (m value : List ℕ) (q : ℕ) (r : Log) (worked : ℕ) (x 
 
   pub takes-server : b ≡ true
       → Takes log m value
-      (record { hash = r .hash; place = r .place; session = r .session; client = r .client; server = value; kind = r .kind; next = r .next; left = r .left })
+      (record { hash = r .hash; place = r .place; session = r .session; client = r .client; server = value; kind = r .kind; next = r .next; sha384 = r .sha384; left = r .left })
   takes-server z = takes-by (r .client) value (x .client ∙ (rw z)) (rw z)
 
   pub takes-client : b ≡ false
       → Takes log m value
-      (record { hash = r .hash; place = r .place; session = r .session; client = value; server = r .server; kind = r .kind; next = r .next; left = r .left })
+      (record { hash = r .hash; place = r .place; session = r .session; client = value; server = r .server; kind = r .kind; next = r .next; sha384 = r .sha384; left = r .left })
   takes-client z = takes-by value (r .server) (rw z) (x .server ∙ (rw z))
 
 -- the ways out of the joined call: it hands on the refusal of `ask`, or refuses by 8

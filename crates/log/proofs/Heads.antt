@@ -13,12 +13,13 @@ use Rattle.refusal.specs.First.{firstOf}
 use Rattle.refusal.proofs.First.{first-zero}
 use Rattle.message.specs.Numbers.{byteAt, pairAt, tripleAt}
 use Rattle.message.specs.Frame.{kindOf, bodyOf, overlong, cutOff, misstated}
+use Rattle.log.specs.Told.{Told}
 use Rattle.log.specs.Order.{turns, look, isDue}
 use Rattle.log.specs.History.{History, tells, placeOf}
 use Rattle.log.specs.History.Beside.{told}
 use Rattle.log.specs.Standing.Standing.{whole}
 use Rattle.log.specs.Calls.{wrongBody, misshapen, shapeNumber, isFinished, outOfTurn, acceptNumber}
-use Rattle.log.specs.Stands.{number}
+use Rattle.log.specs.Stands.{number, hashNumber}
 use Rattle.log.specs.Steps.{InTurn}
 use Rattle.log.proofs.Messages.{fine}
 
@@ -42,23 +43,23 @@ module _ (a b : List ℕ) (e : take 4 a ≡ take 4 b) where
   same-stated = rw (same-byte 1 (omega arith), same-byte 2 (omega arith), same-byte 3 (omega arith))
 
   -- two messages of one header and one length are judged alike
-  pub same-header : (h : History) (resumes : Bool) → length a ≡ length b → acceptNumber (whole h) a resumes ≡ acceptNumber (whole h) b resumes
+  pub same-header : (h : History) (tell : Told) → length a ≡ length b → acceptNumber (whole h) a tell ≡ acceptNumber (whole h) b tell
   unfolding acceptNumber overlong misstated cutOff misshapen isFinished outOfTurn bodyOf
-  same-header h resumes n = rw (same-kind, same-stated, length-drop, length-drop, n)
+  same-header h tell n = rw (same-kind, same-stated, length-drop, length-drop, n)
 
 -- what is known of a message that is accepted
-module _ (h : History) (m : List ℕ) (resumes : Bool) (e : acceptNumber (whole h) m resumes ≡ 0) where
+module _ (h : History) (m : List ℕ) (tell : Told) (e : acceptNumber (whole h) m tell ≡ 0) where
   pub record Acceptable : Type 0 where
     pub shape : shapeNumber m ≡ 0
     pub other : kindOf m ≡ 20 → ⊥
-    pub turn : outOfTurn h m resumes ≡ false
+    pub turn : outOfTurn h m tell ≡ false
 
   pub accepted-is : Acceptable
   unfolding acceptNumber shapeNumber isFinished firstOf
   accepted-is =
       let none =
       first-zero
-      ((10, overlong m) ∷ (1, misstated m) ∷ (1, misshapen m) ∷ (7, false) ∷ (7, isFinished m) ∷ (7, outOfTurn h m resumes) ∷ [])
+      ((10, overlong m) ∷ (1, misstated m) ∷ (1, misshapen m) ∷ (7, false) ∷ (7, isFinished m) ∷ (7, outOfTurn h m tell) ∷ [])
       refl e in
       record {
         shape = rw (none .0, none .1 .0, none .1 .1 .0);
@@ -66,14 +67,14 @@ module _ (h : History) (m : List ℕ) (resumes : Bool) (e : acceptNumber (whole 
         turn = none .1 .1 .1 .1 .1 .0;
       }
 
-  pub accepted-due : (kindOf m ≡ 0 → ⊥) → isDue (kindOf m) (turns resumes (placeOf h)) ≡ true
+  pub accepted-due : (kindOf m ≡ 0 → ⊥) → isDue (kindOf m) (turns (tell .resumes) (placeOf h)) ≡ true
   unfolding outOfTurn
   accepted-due k = not-false _ (rw (ne-eqb (kindOf m) 0 k) at (accepted-is .turn))
 
-  pub accepted-turn : (k p : ℕ) → k ≡ kindOf m → (k ≡ 0 → ⊥) → p ≡ number (look (kindOf m) (turns resumes (placeOf h))) → InTurn h m (told resumes) k p
+  pub accepted-turn : (k p : ℕ) → k ≡ kindOf m → (k ≡ 0 → ⊥) → p ≡ number (look (kindOf m) (turns (tell .resumes) (placeOf h))) → (n : ℕ) → n ≡ hashNumber (tell .hash) → InTurn h m (told tell) k p n
   unfolding tells
-  accepted-turn k p c z q =
-      record { kind = c; hashed = z; place = q; due = accepted-due (λ x. z (c ∙ x)); size = fine m (accepted-is .shape) .longest }
+  accepted-turn k p c z q n t =
+      record { kind = c; hashed = z; place = q; told = t; due = accepted-due (λ x. z (c ∙ x)); size = fine m (accepted-is .shape) .longest }
 
 -- a HelloRequest is its header
 pub request-length : (m : List ℕ) → shapeNumber m ≡ 0 → kindOf m ≡ 0 → length m ≡ 4

@@ -107,18 +107,18 @@ walked (accepted h m b) o =
     go (eqb (kindOf m) 0) refl (not-true _ (and-left (not (outOfTurn h m (tells b))) (inOrder h) o)) (eqb (kindOf m) 2) refl
     (walked h (and-right (not (outOfTurn h m (tells b))) (inOrder h) o))
   where
-    go : (z : Bool) → eqb (kindOf m) 0 ≡ z → (not z && not (isDue (kindOf m) (turns (tells b) (placeOf h)))) ≡ false → (t : Bool) → eqb (kindOf m) 2 ≡ t
+    go : (z : Bool) → eqb (kindOf m) 0 ≡ z → (not z && not (isDue (kindOf m) (turns (tells b .resumes) (placeOf h)))) ≡ false → (t : Bool) → eqb (kindOf m) 2 ≡ t
         → Walked (resumed h) (typesOf h) (placeOf h)
-        → Walked (pick t (tells b) (resumed h)) (pick z (typesOf h) (typesOf h ++ (kindOf m ∷ []))) (pick z (placeOf h) (look (kindOf m) (turns (tells b) (placeOf h))))
+        → Walked (pick t (tells b .resumes) (resumed h)) (pick z (typesOf h) (typesOf h ++ (kindOf m ∷ []))) (pick z (placeOf h) (look (kindOf m) (turns (tells b .resumes) (placeOf h))))
     go true e f true g w = absurd (omega (arith, eqb-true (kindOf m) 0 e, eqb-true (kindOf m) 2 g))
     go true e f false g w = w
     go false e f false g w =
-        let t = told-by (tells b) (resumed h) (placeOf h) (kindOf m) (eqb-false (kindOf m) 2 g) in
+        let t = told-by (tells b .resumes) (resumed h) (placeOf h) (kindOf m) (eqb-false (kindOf m) 2 g) in
         rw (t .1) (step (resumed h) (typesOf h) (placeOf h) (kindOf m) w (sym (t .0) ∙ not-false _ f))
     go false e f true g w =
-        let d : isDue (kindOf m) (turns (tells b) (placeOf h)) ≡ true = not-false _ f in
-        let c : placeOf h ≡ clientHello = two-after (tells b) (placeOf h) (rw (eqb-true (kindOf m) 2 g) at d) in
-        step (tells b) (typesOf h) (placeOf h) (kindOf m) (rw c (untold-walk (resumed h) (tells b) (typesOf h) (rw c at w))) d
+        let d : isDue (kindOf m) (turns (tells b .resumes) (placeOf h)) ≡ true = not-false _ f in
+        let c : placeOf h ≡ clientHello = two-after (tells b .resumes) (placeOf h) (rw (eqb-true (kindOf m) 2 g) at d) in
+        step (tells b .resumes) (typesOf h) (placeOf h) (kindOf m) (rw c (untold-walk (resumed h) (tells b .resumes) (typesOf h) (rw c at w))) d
 
 -- the last step of a walk
 last-step : (resumes : Bool) (l : List ℕ) (kind : ℕ) → walks resumes beginning (l ++ (kind ∷ [])) ≡ true
@@ -135,22 +135,22 @@ in-order fresh e = refl
 in-order (accepted h m b) e = go (eqb (kindOf m) 0) refl (eqb (kindOf m) 2) refl e (in-order h)
   where
     go : (z : Bool) → eqb (kindOf m) 0 ≡ z → (t : Bool) → eqb (kindOf m) 2 ≡ t
-        → walks (pick t (tells b) (resumed h)) beginning (pick z (typesOf h) (typesOf h ++ (kindOf m ∷ []))) ≡ true
+        → walks (pick t (tells b .resumes) (resumed h)) beginning (pick z (typesOf h) (typesOf h ++ (kindOf m ∷ []))) ≡ true
         → (walks (resumed h) beginning (typesOf h) ≡ true → inOrder h ≡ true)
-        → (not (not z && not (isDue (kindOf m) (turns (tells b) (placeOf h)))) && inOrder h) ≡ true
+        → (not (not z && not (isDue (kindOf m) (turns (tells b .resumes) (placeOf h)))) && inOrder h) ≡ true
     go true y true g e f = absurd (omega (arith, eqb-true (kindOf m) 0 y, eqb-true (kindOf m) 2 g))
     go true y false g e f = f e
     go false y false g e f =
         let s = last-step (resumed h) (typesOf h) (kindOf m) e in
         let o : inOrder h ≡ true = f (s .0) in
         let d : isDue (kindOf m) (turns (resumed h) (placeOf h)) ≡ true = rw (walked h o .ends) at (s .1) in
-        rw (told-by (tells b) (resumed h) (placeOf h) (kindOf m) (eqb-false (kindOf m) 2 g) .0, d, o)
+        rw (told-by (tells b .resumes) (resumed h) (placeOf h) (kindOf m) (eqb-false (kindOf m) 2 g) .0, d, o)
     go false y true g e f =
-        let s = last-step (tells b) (typesOf h) (kindOf m) e in
-        let c : walk (tells b) beginning (typesOf h) ≡ clientHello = two-after (tells b) _ (rw (eqb-true (kindOf m) 2 g) at (s .1)) in
-        let w = untold-walk (tells b) (resumed h) (typesOf h) (record { well = s .0; ends = c }) in
+        let s = last-step (tells b .resumes) (typesOf h) (kindOf m) e in
+        let c : walk (tells b .resumes) beginning (typesOf h) ≡ clientHello = two-after (tells b .resumes) _ (rw (eqb-true (kindOf m) 2 g) at (s .1)) in
+        let w = untold-walk (tells b .resumes) (resumed h) (typesOf h) (record { well = s .0; ends = c }) in
         let o : inOrder h ≡ true = f (w .well) in
-        let d : isDue (kindOf m) (turns (tells b) (placeOf h)) ≡ true = rw (c ∙ sym (w .ends) ∙ walked h o .ends) at (s .1) in
+        let d : isDue (kindOf m) (turns (tells b .resumes) (placeOf h)) ≡ true = rw (c ∙ sym (w .ends) ∙ walked h o .ends) at (s .1) in
         rw (d, o)
 
 -- ---- the statement

@@ -1,6 +1,8 @@
 pub mod Turns
 pub mod Places
 pub mod Messages
+pub mod Chosen
+pub mod Fields
 pub mod Standing
 pub mod Alone
 pub mod Heads

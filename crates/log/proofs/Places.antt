@@ -26,14 +26,14 @@ says fresh o = record { exchanged = refl; resumed = refl; taken = refl }
 says (accepted h m b) o =
     by-test (eqb (kindOf m) 0) refl (not-true _ (and-left (not (outOfTurn h m (tells b))) (inOrder h) o)) (says h (and-right (not (outOfTurn h m (tells b))) (inOrder h) o))
   where
-    by-test : (z : Bool) → eqb (kindOf m) 0 ≡ z → (not z && not (isDue (kindOf m) (turns (tells b) (placeOf h)))) ≡ false
+    by-test : (z : Bool) → eqb (kindOf m) 0 ≡ z → (not z && not (isDue (kindOf m) (turns (tells b .resumes) (placeOf h)))) ≡ false
         → Says (number (placeOf h)) h
-        → Says (number (pick z (placeOf h) (look (kindOf m) (turns (tells b) (placeOf h))))) (accepted h m b)
+        → Says (number (pick z (placeOf h) (look (kindOf m) (turns (tells b .resumes) (placeOf h))))) (accepted h m b)
     by-test true e f s =
         let k = eqb-true (kindOf m) 0 e in
         record { exchanged = rw k (s .exchanged); resumed = rw k (s .resumed); taken = rw k (s .taken) }
     by-test false e f s =
-        let t = turned (tells b) (placeOf h) (kindOf m) (not-false _ f) in
+        let t = turned (tells b .resumes) (placeOf h) (kindOf m) (not-false _ f) in
         record {
           exchanged = rw (s .exchanged) (sym (t .exchanged));
           resumed = rw (s .resumed) (sym (t .resumed));

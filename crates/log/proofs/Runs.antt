@@ -53,13 +53,13 @@ further side h m b v c =
 came-by : (side : Side) (h : History) → Compared h → tookFrom side h ≡ true → Came side h (verifyDataOf side h)
 unfolding tookFrom verifyDataOf Compared
 came-by side fresh c t = absurd (false≢true t)
-came-by side (accepted h m (told resumes)) c t =
+came-by side (accepted h m (told tell)) c t =
     go (eqb (kindOf m) 20) (ne-eqb (kindOf m) 20 (c .0)) t (came-by side h (c .1))
   where
     go : (z : Bool) → z ≡ false → pick (z && isFrom side h) true (tookFrom side h) ≡ true → (tookFrom side h ≡ true → Came side h (verifyDataOf side h))
-        → Came side (accepted h m (told resumes)) (pick (z && isFrom side h) (bodyOf m) (verifyDataOf side h))
+        → Came side (accepted h m (told tell)) (pick (z && isFrom side h) (bodyOf m) (verifyDataOf side h))
     go true e t f = absurd (false≢true (sym e))
-    go false e t f = further side h m (told resumes) _ (f t)
+    go false e t f = further side h m (told tell) _ (f t)
 came-by side (accepted h m (under secret)) c t =
     go (eqb (kindOf m) 20) (eq-eqb (kindOf m) 20 (c .0 .kind)) (isFrom side h) refl t (came-by side h (c .1))
   where
@@ -86,15 +86,15 @@ took (accepted h m b) o =
     before : inOrder h ≡ true
     before = and-right (not (outOfTurn h m (tells b))) (inOrder h) o
 
-    by-test : (z : Bool) → eqb (kindOf m) 0 ≡ z → (not z && not (isDue (kindOf m) (turns (tells b) (placeOf h)))) ≡ false
+    by-test : (z : Bool) → eqb (kindOf m) 0 ≡ z → (not z && not (isDue (kindOf m) (turns (tells b .resumes) (placeOf h)))) ≡ false
         → serverDueAt (number (placeOf h)) ≡ fromServer h
         → Took (number (placeOf h)) h
-        → Took (number (pick z (placeOf h) (look (kindOf m) (turns (tells b) (placeOf h))))) (accepted h m b)
+        → Took (number (pick z (placeOf h) (look (kindOf m) (turns (tells b .resumes) (placeOf h))))) (accepted h m b)
     by-test true e f w s =
         let k = eqb-true (kindOf m) 0 e in
         record { client = rw k (s .client); server = rw k (s .server) }
     by-test false e f w s =
-        let t = turned (tells b) (placeOf h) (kindOf m) (not-false _ f) in
+        let t = turned (tells b .resumes) (placeOf h) (kindOf m) (not-false _ f) in
         record { client = rw (← w, s .client) (sym (t .client)); server = rw (← w, s .server) (sym (t .server)) }
 
 -- where both are taken, each is
@@ -150,7 +150,7 @@ ordered-runs log log′ cs f r =
   where
     -- what has begun is accepted when it is whole, and so leads on along an order
     parted-on : (log : Log) (s : Standing) → Stands log s → (p : Part) → s ≡ parted (historyOf s) p → (rest : List ℕ) → length rest ≡ leftOf p
-        → Begins (resumed (accepted (historyOf s) (p .got ++ rest) (told (p .resumes)))) (typesOf (accepted (historyOf s) (p .got ++ rest) (told (p .resumes))))
+        → Begins (resumed (accepted (historyOf s) (p .got ++ rest) (told (p .tell)))) (typesOf (accepted (historyOf s) (p .got ++ rest) (told (p .tell))))
     parted-on log s st p e rest n =
         let t : Stands log (parted (historyOf s) p) = subst (Stands log) e st in
-        both-calls (historyOf s) (st .place .order) .accepts-only (p .got ++ rest) (p .resumes) (t .part .judged rest n) .1
+        both-calls (historyOf s) (st .place .order) .accepts-only (p .got ++ rest) (p .tell) (t .part .judged rest n) .1

@@ -10,12 +10,15 @@ use lib.ListN.{length, replicate, length-append}
 use borrow.Author.Tests.{ne-eqb}
 use Rattle.seqs.specs.Pick.{pick}
 use Rattle.message.specs.Frame.{kindOf, bodyOf}
-use Rattle.sha256.specs.Sha256.{sha256}
 use Rattle.sha256.specs.Running.{most}
-use Rattle.transcript.specs.Carries.{Carries}
+use Rattle.transcript.specs.Choice.{Algorithm}
+use Rattle.transcript.specs.Choice.Choice.{unchosen}
+use Rattle.transcript.specs.Carries.{Carries, digestOf}
 use Rattle.transcript.specs.Promise.{Enters}
 use Rattle.transcript.specs.declared.Transcript.{Transcript}
-use Rattle.log.specs.History.{Beside, History, tells, placeOf, hashed, sessionHash, isFrom, verifyDataOf}
+use Rattle.log.specs.Told.{Told}
+use Rattle.log.specs.Suite.{inField}
+use Rattle.log.specs.History.{Beside, History, tells, placeOf, hashed, choiceOf, suiteOf, sessionHash, isFrom, verifyDataOf}
 use Rattle.log.specs.History.History.{fresh, accepted}
 use Rattle.log.specs.History.Beside.{told}
 use Rattle.log.specs.History.Side.{client, server}
@@ -28,9 +31,9 @@ use Rattle.log.specs.Steps.{InTurn}
 use Rattle.log.specs.declared.state.Log.{Log}
 use Rattle.log.proofs.Turns.{turned}
 
-pub fresh-stands : (hash : Transcript) → Carries hash []
-    → Stands (record { hash = hash; place = 0; session = replicate 32 0; client = replicate 12 0; server = replicate 12 0; kind = 0; next = 0; left = 0 }) (whole fresh)
-unfolding placeOf hashed number inOrder sessionHash verifyDataOf Compared
+pub fresh-stands : (hash : Transcript) → Carries hash unchosen []
+    → Stands (record { hash = hash; place = 0; session = replicate 48 0; client = replicate 12 0; server = replicate 12 0; kind = 0; next = 0; sha384 = 0; left = 0 }) (whole fresh)
+unfolding placeOf hashed choiceOf number inOrder sessionHash verifyDataOf Compared
 fresh-stands hash r =
     record {
       place = record { number = refl; order = refl };
@@ -40,14 +43,14 @@ fresh-stands hash r =
       client = refl;
       server = refl;
       compared = tt;
-      part = record { kind = refl; next = refl; left = refl };
+      part = record { kind = refl; next = refl; sha384 = refl; left = refl };
     }
 
 -- a log that has accepted a HelloRequest is as it was
-pub request-stands : (log : Log) (h : History) (m : List ℕ) (resumes : Bool) → Stands log (whole h) → kindOf m ≡ 0
-    → Stands log (whole (accepted h m (told resumes)))
-unfolding placeOf hashed outOfTurn inOrder sessionHash verifyDataOf Compared
-request-stands log h m resumes s k =
+pub request-stands : (log : Log) (h : History) (m : List ℕ) (tell : Told) → Stands log (whole h) → kindOf m ≡ 0
+    → Stands log (whole (accepted h m (told tell)))
+unfolding placeOf hashed choiceOf outOfTurn inOrder sessionHash verifyDataOf Compared
+request-stands log h m tell s k =
     record {
       place = record { number = rw k (s .place .number); order = rw k (s .place .order) };
       hash = rw k (s .hash);
@@ -73,26 +76,27 @@ by-parted log e (parted h p) st = refl
 -- bytes behind those that were taken of a message
 module _ (log : Log) (s : Standing) (got bytes : List ℕ) (st : Stands log s) (e : entered s ≡ hashed (historyOf s) ++ got)
     (size : length (got ++ bytes) ≤ 16388) (far : length (hashed (historyOf s)) ≤ 262208) where
-  -- the hash is far from its bound
+  -- each hash is far from its bound
   pub room : length (entered s) + length bytes ≤ most
   room =
       let n : length (entered s) ≡ length (hashed (historyOf s)) + length got = ap length e ∙ length-append (hashed (historyOf s)) got in
       omega (arith, n, length-append got bytes)
 
-  pub carried : (r : Transcript) (worked : ℕ) → Enters (log .hash) bytes r worked → Carries r (hashed (historyOf s) ++ (got ++ bytes))
+  pub carried : (r : Transcript) (worked : Algorithm → ℕ) → Enters (log .hash) bytes r worked
+      → Carries r (choiceOf (historyOf s)) (hashed (historyOf s) ++ (got ++ bytes))
   carried r worked x =
-      subst (Carries r) (ap (λ (l : List ℕ). l ++ bytes) e ∙ append-assoc (hashed (historyOf s)) got bytes) (x .carries (entered s) (st .hash) room)
+      subst (Carries r (choiceOf (historyOf s))) (ap (λ (l : List ℕ). l ++ bytes) e ∙ append-assoc (hashed (historyOf s)) got bytes) (x .carries (choiceOf (historyOf s)) (entered s) (st .hash) room)
 
-module _ (log : Log) (s : Standing) (m : List ℕ) (b : Beside) (k p : ℕ) (st : Stands log s) (t : InTurn (historyOf s) m b k p) where
+module _ (log : Log) (s : Standing) (m : List ℕ) (b : Beside) (k p n : ℕ) (st : Stands log s) (t : InTurn (historyOf s) m b k p n) where
   other : eqb (kindOf m) 0 ≡ false
   other = ne-eqb (kindOf m) 0 (λ e. t .hashed (t .kind ∙ e))
 
   pub far : length (hashed (historyOf s)) ≤ 262208
-  far = let u = turned (tells b) (placeOf (historyOf s)) (kindOf m) (t .due) in omega (arith, st .short, u .rises, u .most)
+  far = let u = turned (tells b .resumes) (placeOf (historyOf s)) (kindOf m) (t .due) in omega (arith, st .short, u .rises, u .most)
 
   -- a log that has taken a message
-  pub taking-stands : (r : Log) → Carries (r .hash) (hashed (historyOf s) ++ m) → r .place ≡ p
-      → r .session ≡ pick (eqb k 16) (sha256 (hashed (historyOf s) ++ m)) (log .session)
+  pub taking-stands : (r : Log) → Carries (r .hash) (choiceOf (accepted (historyOf s) m b)) (hashed (historyOf s) ++ m) → r .place ≡ p
+      → r .session ≡ pick (eqb k 16) (inField (digestOf (suiteOf (historyOf s)) (hashed (historyOf s) ++ m))) (log .session)
       → r .client ≡ pick (eqb k 20 && isFrom client (historyOf s)) (bodyOf m) (log .client)
       → r .server ≡ pick (eqb k 20 && isFrom server (historyOf s)) (bodyOf m) (log .server)
       → Unparted r
@@ -103,10 +107,17 @@ module _ (log : Log) (s : Standing) (m : List ℕ) (b : Beside) (k p : ℕ) (st 
       record {
         place = record { number = rw other (q ∙ t .place); order = rw (other, t .due) (st .place .order) };
         hash = rw other x;
-        short = rw (other, length-append) (omega (arith, st .short, turned (tells b) (placeOf (historyOf s)) (kindOf m) (t .due) .rises, t .size));
-        session = e ∙ (rw (t .kind, st .session));
+        short = rw (other, length-append) (omega (arith, st .short, turned (tells b .resumes) (placeOf (historyOf s)) (kindOf m) (t .due) .rises, t .size));
+        session = e ∙ (rw (t .kind, st .session)) ∙ picked (eqb (kindOf m) 16);
         client = f ∙ (rw (t .kind, st .client));
         server = g ∙ (rw (t .kind, st .server));
         compared = c;
         part = u;
       }
+    where
+      -- a field of either
+      picked : (z : Bool)
+          → pick z (inField (digestOf (suiteOf (historyOf s)) (hashed (historyOf s) ++ m))) (inField (sessionHash (historyOf s)))
+          ≡ inField (pick z (digestOf (suiteOf (historyOf s)) (hashed (historyOf s) ++ m)) (sessionHash (historyOf s)))
+      picked true = refl
+      picked false = refl

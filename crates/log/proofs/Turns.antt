@@ -8,7 +8,7 @@ use Prim.Native.Nat.{ℕ, zero, suc, _≤_, _<_}
 use native.Mathlib.Omega.{arith}
 use lib.Dec.{eqb, leb, ltb}
 use lib.ListN.{getD}
-use borrow.Author.Tests.{eqb-true, leb-true, ltb-true, ne-eqb}
+use borrow.Author.Tests.{eqb-true, leb-true, ltb-true, ne-eqb, not-true}
 use Rattle.seqs.specs.Pick.{pick}
 use Rattle.seqs.specs.Cases.{by-test, and-left, and-right, or-left, or-right}
 use Rattle.log.specs.Order.{Place, look, turns, isDue}
@@ -103,8 +103,11 @@ not-due kind [] d = refl
 not-due kind ((due, place) ∷ rest) d =
     rw (or-left (eqb kind due) (isDue kind rest) d) (not-due kind rest (or-right (eqb kind due) (isDue kind rest) d))
 
--- what the numbers say of a history: a ClientKeyExchange was accepted, it was told to resume, how many Finished are taken, whether the
--- next one is the server's, and which side's are taken
+-- what the numbers say of a history: a ServerHello was accepted, a ClientKeyExchange was, it was told to resume, how many Finished are taken,
+-- whether the next one is the server's, and which side's are taken
+abbrev pub chosenAt : ℕ → Bool
+chosenAt n = leb 2 n
+
 abbrev pub exchangedAt : ℕ → Bool
 exchangedAt n = leb 9 n && leb n 13
 
@@ -127,6 +130,9 @@ serverAt n = eqb n 15 || (eqb n 13 || eqb n 16)
 pub record Turned (resumes : Bool) (n kind n′ : ℕ) : Type 0 where
   pub rises : n < n′
   pub most : n′ < 17
+  pub chosen : chosenAt n′ ≡ (eqb kind 2 || chosenAt n)
+  -- there is one ServerHello
+  pub once : (eqb kind 2 && chosenAt n) ≡ false
   pub exchanged : exchangedAt n′ ≡ (eqb kind 16 || exchangedAt n)
   pub resumed : resumedAt n′ ≡ pick (eqb kind 2) resumes (resumedAt n)
   pub taken : takenAt n′ ≡ pick (eqb kind 20) (suc (takenAt n)) (takenAt n)
@@ -137,23 +143,29 @@ turns-well : Bool → ℕ → ℕ → ℕ → Bool
 turns-well resumes n kind n′ =
     ltb n n′
     && (ltb n′ 17
+    && (alike (chosenAt n′) (eqb kind 2 || chosenAt n)
+    && (not (eqb kind 2 && chosenAt n)
     && (alike (exchangedAt n′) (eqb kind 16 || exchangedAt n)
     && (alike (resumedAt n′) (pick (eqb kind 2) resumes (resumedAt n))
     && (eqb (takenAt n′) (pick (eqb kind 20) (suc (takenAt n)) (takenAt n))
     && (alike (clientAt n′) (pick (eqb kind 20 && not (serverDueAt n)) true (clientAt n))
-    && alike (serverAt n′) (pick (eqb kind 20 && serverDueAt n) true (serverAt n)))))))
+    && alike (serverAt n′) (pick (eqb kind 20 && serverDueAt n) true (serverAt n)))))))))
 
 turned-by : (resumes : Bool) (n kind n′ : ℕ) → turns-well resumes n kind n′ ≡ true → Turned resumes n kind n′
 unfolding turns-well
 turned-by resumes n kind n′ e =
     let f = and-right (ltb n n′) _ e in
-    let g = and-right (ltb n′ 17) _ f in
+    let c = and-right (ltb n′ 17) _ f in
+    let o = and-right (alike (chosenAt n′) (eqb kind 2 || chosenAt n)) _ c in
+    let g = and-right (not (eqb kind 2 && chosenAt n)) _ o in
     let h = and-right (alike (exchangedAt n′) (eqb kind 16 || exchangedAt n)) _ g in
     let i = and-right (alike (resumedAt n′) (pick (eqb kind 2) resumes (resumedAt n))) _ h in
     let j = and-right (eqb (takenAt n′) (pick (eqb kind 20) (suc (takenAt n)) (takenAt n))) _ i in
     record {
       rises = ltb-true n n′ (and-left _ _ e);
       most = ltb-true n′ 17 (and-left _ _ f);
+      chosen = alike-same _ _ (and-left _ _ c);
+      once = not-true _ (and-left _ _ o);
       exchanged = alike-same _ _ (and-left _ _ g);
       resumed = alike-same _ _ (and-left _ _ h);
       taken = eqb-true _ _ (and-left _ _ i);

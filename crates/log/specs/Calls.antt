@@ -11,6 +11,8 @@ use Rattle.seqs.specs.Flag.{bit}
 use Rattle.refusal.specs.First.{firstOf}
 use Rattle.refusal.specs.Table.{refusalOf}
 use Rattle.message.specs.Frame.{kindOf, bodyOf, overlong, misstated, headerPlace}
+use Rattle.log.specs.Told.{Told}
+use Rattle.log.specs.Suite.{inField}
 use Rattle.log.specs.Order.{turns, isDue}
 use Rattle.log.specs.History.{History, tells, placeOf, sessionHash, exchanged, resumed, complete, verifyDataOf}
 use Rattle.log.specs.History.Side.{client, server}
@@ -38,8 +40,8 @@ abbrev pub brokenAt : List ℕ → ℕ
 brokenAt m = headerPlace m
 
 -- type 0 'is accepted anywhere'; 'Anything else is 7.'
-unfoldable pub outOfTurn : History → List ℕ → Bool → Bool
-outOfTurn h m resumes = not (eqb (kindOf m) 0) && not (isDue (kindOf m) (turns resumes (placeOf h)))
+unfoldable pub outOfTurn : History → List ℕ → Told → Bool
+outOfTurn h m tell = not (eqb (kindOf m) 0) && not (isDue (kindOf m) (turns (tell .resumes) (placeOf h)))
 
 -- was each message in turn? From fresh by the calls there is no other history.
 unfoldable pub inOrder : History → Bool
@@ -51,19 +53,19 @@ unfoldable pub isFinished : List ℕ → Bool
 isFinished m = eqb (kindOf m) 20
 
 -- accepting a message; order 4: '7 for another log call between parts', here and below in 7's rank
-unfoldable pub acceptNumber : Standing → List ℕ → Bool → ℕ
-acceptNumber s m resumes =
+unfoldable pub acceptNumber : Standing → List ℕ → Told → ℕ
+acceptNumber s m tell =
     firstOf
     ((10, overlong m)
     ∷ (1, misstated m)
     ∷ (1, misshapen m)
     ∷ (7, between s)
     ∷ (7, isFinished m)
-    ∷ (7, outOfTurn (historyOf s) m resumes)
+    ∷ (7, outOfTurn (historyOf s) m tell)
     ∷ [])
 
-unfoldable pub afterAccept : Standing → List ℕ → Bool → Standing
-afterAccept s m resumes = pick (eqb (acceptNumber s m resumes) 0) (whole (accepted (historyOf s) m (told resumes))) s
+unfoldable pub afterAccept : Standing → List ℕ → Told → Standing
+afterAccept s m tell = pick (eqb (acceptNumber s m tell) 0) (whole (accepted (historyOf s) m (told tell))) s
 
 -- the session hash; 'asked earlier, or in a resumed log, it is 7'
 unfoldable pub sessionNumber : Standing → ℕ
@@ -73,7 +75,8 @@ unfoldable pub sessionHashOf : Standing → SessionHash
 sessionHashOf s =
     record {
       refusal = refusalOf (sessionNumber s);
-      hash = pick (eqb (sessionNumber s) 0) (sessionHash (historyOf s)) (replicate 32 0);
+      length = pick (eqb (sessionNumber s) 0) (length (sessionHash (historyOf s))) 0;
+      hash = pick (eqb (sessionNumber s) 0) (inField (sessionHash (historyOf s))) (replicate 48 0);
     }
 
 -- what completion asks of a log: are both Finished taken, does it resume, and 'both values', the client's and the server's; nothing before,

@@ -12,11 +12,11 @@ use Rattle.refusal.specs.First.{firstOf}
 use Rattle.refusal.specs.Table.{refusalOf}
 use Rattle.octets.specs.Same.{same}
 use Rattle.message.specs.Frame.{kindOf, bodyOf, overlong, misstated}
-use Rattle.sha256.specs.Sha256.{sha256}
-use Rattle.prf.specs.Hash.{SHA256}
+use Rattle.transcript.specs.Carries.{digestOf}
 use Rattle.prf.specs.Secrets.{verifyData}
 use Rattle.log.specs.Order.{finishedDue}
-use Rattle.log.specs.History.{History, placeOf, hashed, fromServer}
+use Rattle.log.specs.Suite.{functionOf}
+use Rattle.log.specs.History.{History, placeOf, hashed, suiteOf, fromServer}
 use Rattle.log.specs.History.History.{fresh, accepted}
 use Rattle.log.specs.History.Beside.{told, under}
 use Rattle.log.specs.Standing.{Standing, historyOf, between}
@@ -24,9 +24,9 @@ use Rattle.log.specs.Standing.Standing.{whole}
 use Rattle.log.specs.Calls.{misshapen, isFinished}
 use Rattle.log.specs.declared.answers.Expected.{Expected}
 
--- 'expected is PRF(secret, "client finished" or "server finished", hash of the log so far), first 12 bytes'
+-- 'expected is PRF(secret, "client finished" or "server finished", hash of the log so far), first 12 bytes', both by the suite's hash
 unfoldable pub expectedValue : History → List ℕ → List ℕ
-expectedValue h secret = verifyData SHA256 secret (fromServer h) (sha256 (hashed h))
+expectedValue h secret = verifyData (functionOf (suiteOf h)) secret (fromServer h) (digestOf (suiteOf h) (hashed h))
 
 -- 'a third call gives them, with the same 10 and 7'
 unfoldable pub expectedNumber : Standing → List ℕ → ℕ
@@ -71,5 +71,5 @@ pub record Checked (h : History) (m secret : List ℕ) : Type 0 where
 -- was each Finished checked? From fresh by the calls there is no other history.
 unfoldable pub Compared : History → Type 0
 Compared fresh = Unit {0}
-Compared (accepted h m (told resumes)) = (kindOf m ≡ 20 → ⊥) × Compared h
+Compared (accepted h m (told tell)) = (kindOf m ≡ 20 → ⊥) × Compared h
 Compared (accepted h m (under secret)) = Checked h m secret × Compared h

@@ -7,21 +7,25 @@ use lib.Dec.{eqb}
 use lib.ListN.{replicate}
 use Rattle.seqs.specs.Pick.{pick}
 use Rattle.message.specs.Frame.{kindOf, bodyOf}
-use Rattle.sha256.specs.Sha256.{sha256}
+use Rattle.transcript.specs.Choice.{Algorithm, Choice, algorithmOf}
+use Rattle.transcript.specs.Choice.Algorithm.{sha-256}
+use Rattle.transcript.specs.Choice.Choice.{unchosen, chosen}
+use Rattle.transcript.specs.Carries.{digestOf}
+use Rattle.log.specs.Told.{Told}
 use Rattle.log.specs.Order.{Place, turns, look}
 use Rattle.log.specs.Order.Place.{beginning}
 
 -- What a call is handed beside its message.
 pub data Beside : Type 0 where
-  -- the accepting call: whether it resumes, of account with a ServerHello alone
-  told : Bool → Beside
+  -- the accepting call: what is told, of account with a ServerHello alone
+  told : Told → Beside
   -- order 6's joined call: the secret that the Finished was checked under
   under : List ℕ → Beside
 
--- was it told to resume?
-unfoldable pub tells : Beside → Bool
-tells (told resumes) = resumes
-tells (under secret) = false
+-- what was told; with a Finished nothing is, and these two are of no account
+unfoldable pub tells : Beside → Told
+tells (told tell) = tell
+tells (under secret) = record { resumes = false; hash = sha-256 }
 
 -- The messages that were accepted, by either call, the latest outermost.
 pub data History : Type 0 where
@@ -31,18 +35,27 @@ pub data History : Type 0 where
 -- where the handshake stands; type 0 'is accepted anywhere'
 unfoldable pub placeOf : History → Place
 placeOf fresh = beginning
-placeOf (accepted h m b) = pick (eqb (kindOf m) 0) (placeOf h) (look (kindOf m) (turns (tells b) (placeOf h)))
+placeOf (accepted h m b) = pick (eqb (kindOf m) 0) (placeOf h) (look (kindOf m) (turns (tells b .resumes) (placeOf h)))
 
 -- the hashed bytes: 'all accepted messages, headers included'; type 0 'isn't hashed'
 unfoldable pub hashed : History → List ℕ
 hashed fresh = []
 hashed (accepted h m b) = pick (eqb (kindOf m) 0) (hashed h) (hashed h ++ m)
 
--- 'The session hash is SHA-256 over all accepted messages, headers included, from ClientHello through ClientKeyExchange': what was hashed
--- when the ClientKeyExchange, type 16, was accepted. 'It stays the same afterwards.' Zeros before it.
+-- Order 7: 'The caller states, with the ServerHello', type 2, 'which of the two hashes the suite uses'; none is chosen before it
+unfoldable pub choiceOf : History → Choice
+choiceOf fresh = unchosen
+choiceOf (accepted h m b) = pick (eqb (kindOf m) 2) (chosen (tells b .hash)) (choiceOf h)
+
+-- the hash of the suite
+abbrev pub suiteOf : History → Algorithm
+suiteOf h = algorithmOf (choiceOf h)
+
+-- 'The session hash is' the suite's hash 'over all accepted messages, headers included, from ClientHello through ClientKeyExchange': what was
+-- hashed when the ClientKeyExchange, type 16, was accepted. 'It stays the same afterwards.' None before it.
 unfoldable pub sessionHash : History → List ℕ
-sessionHash fresh = replicate 32 0
-sessionHash (accepted h m b) = pick (eqb (kindOf m) 16) (sha256 (hashed h ++ m)) (sessionHash h)
+sessionHash fresh = []
+sessionHash (accepted h m b) = pick (eqb (kindOf m) 16) (digestOf (suiteOf h) (hashed h ++ m)) (sessionHash h)
 
 -- was a ClientKeyExchange, type 16, accepted?
 unfoldable pub exchanged : History → Bool
@@ -52,7 +65,7 @@ exchanged (accepted h m b) = eqb (kindOf m) 16 || exchanged h
 -- 'With the ServerHello', type 2, 'the log is told whether it resumes'
 unfoldable pub resumed : History → Bool
 resumed fresh = false
-resumed (accepted h m b) = pick (eqb (kindOf m) 2) (tells b) (resumed h)
+resumed (accepted h m b) = pick (eqb (kindOf m) 2) (tells b .resumes) (resumed h)
 
 -- how many Finished, type 20, are taken; 'both'
 unfoldable pub finishedTaken : History → ℕ

@@ -2,7 +2,7 @@
 -- calls and every run.
 -- Assumes nothing.
 use mathlib.Core.Path.{_≡_}
-use mathlib.Core.Bool.{Bool, true, false, _&&_}
+use mathlib.Core.Bool.{Bool, true, false, _&&_, _||_}
 use mathlib.Core.Logic.{_⊎_}
 use mathlib.Core.List.{List, [], _∷_, _++_, List·Memᴰ}
 use Prim.Native.Nat.{ℕ}
@@ -10,9 +10,13 @@ use lib.Dec.{eqb}
 use lib.ListN.{length}
 use Rattle.seqs.specs.Pick.{pick}
 use Rattle.message.specs.Frame.{kindOf, bodyOf}
-use Rattle.log.specs.Order.{Place, turns, isDue, look}
+use Rattle.transcript.specs.Choice.{Algorithm}
+use Rattle.transcript.specs.Choice.Choice.{chosen}
+use Rattle.log.specs.Told.{Told}
+use Rattle.log.specs.Suite.{widthOf}
+use Rattle.log.specs.Order.{Place, turns, isDue, look, finishedDue}
 use Rattle.log.specs.Order.Place.{beginning, completeFull, completeResumed}
-use Rattle.log.specs.History.{History, resumed, complete}
+use Rattle.log.specs.History.{History, placeOf, choiceOf, suiteOf, sessionHash, exchanged, resumed, complete}
 use Rattle.log.specs.History.History.{fresh, accepted}
 use Rattle.log.specs.History.Beside.{told}
 use Rattle.log.specs.Standing.{Standing, Part, historyOf, between, leftOf}
@@ -22,7 +26,10 @@ use Rattle.log.specs.Finish.{expectedValue, finishNumber, Checked}
 use Rattle.log.specs.Runs.{Call, numberOf, after, standingFrom, Run}
 use Rattle.log.specs.Runs.Call.{accept, finish, feed}
 use Rattle.log.specs.Stands.{Stands}
+use Rattle.log.specs.Promise.{Hashes, Expects}
 use Rattle.log.specs.declared.state.Log.{Log}
+use Rattle.log.specs.declared.answers.SessionHash.{SessionHash}
+use Rattle.log.specs.declared.answers.Expected.{Expected}
 
 -- a type that may be there
 abbrev pub optional : Bool → ℕ → List ℕ
@@ -87,10 +94,10 @@ pub record Ordered (h : History) : Type 0 where
 -- Over both calls, on a history in order; the call by allowance judges a first part as the accepting one does. The accepting call takes a well-formed message exactly if its type leads on along an order and is
 -- not 20; the joined call takes type 20 exactly if that leads on and the value is the expected one.
 pub record BothCalls (h : History) : Type 0 where
-  pub accepts : (m : List ℕ) (resumes : Bool) → shapeNumber m ≡ 0 → (kindOf m ≡ 20 → ⊥)
-      → Begins (resumed (accepted h m (told resumes))) (typesOf (accepted h m (told resumes))) → acceptNumber (whole h) m resumes ≡ 0
-  pub accepts-only : (m : List ℕ) (resumes : Bool) → acceptNumber (whole h) m resumes ≡ 0
-      → (kindOf m ≡ 20 → ⊥) × Begins (resumed (accepted h m (told resumes))) (typesOf (accepted h m (told resumes)))
+  pub accepts : (m : List ℕ) (tell : Told) → shapeNumber m ≡ 0 → (kindOf m ≡ 20 → ⊥)
+      → Begins (resumed (accepted h m (told tell))) (typesOf (accepted h m (told tell))) → acceptNumber (whole h) m tell ≡ 0
+  pub accepts-only : (m : List ℕ) (tell : Told) → acceptNumber (whole h) m tell ≡ 0
+      → (kindOf m ≡ 20 → ⊥) × Begins (resumed (accepted h m (told tell))) (typesOf (accepted h m (told tell)))
   pub finishes : (secret m : List ℕ) → length secret ≡ 48 → shapeNumber m ≡ 0 → kindOf m ≡ 20 → bodyOf m ≡ expectedValue h secret
       → Begins (resumed h) (typesOf h ++ (20 ∷ [])) → finishNumber (whole h) secret m ≡ 0
   pub finishes-only : (secret m : List ℕ) → finishNumber (whole h) secret m ≡ 0
@@ -104,7 +111,7 @@ pub record OrderedBy (s : Standing) : Type 0 where
   pub only : complete (historyOf s) ≡ true → List·Memᴰ (typesOf (historyOf s)) (orders (resumed (historyOf s)))
   pub calls : between s ≡ false → BothCalls (historyOf s)
   pub parted : (p : Part) → s ≡ parted (historyOf s) p → (rest : List ℕ) → length rest ≡ leftOf p
-      → Begins (resumed (accepted (historyOf s) (p .got ++ rest) (told (p .resumes)))) (typesOf (accepted (historyOf s) (p .got ++ rest) (told (p .resumes))))
+      → Begins (resumed (accepted (historyOf s) (p .got ++ rest) (told (p .tell)))) (typesOf (accepted (historyOf s) (p .got ++ rest) (told (p .tell))))
 
 abbrev pub OrderedRuns : Type 0
 OrderedRuns =
@@ -118,18 +125,39 @@ AllTaken s (c ∷ cs) = (numberOf s c ≡ 0) × AllTaken (after s c) cs
 -- the joined call is handed this secret, wherever it is called
 unfoldable pub Under : List ℕ → List Call → Type 0
 Under secret [] = Unit {0}
-Under secret (accept m resumes ∷ cs) = Under secret cs
+Under secret (accept m tell ∷ cs) = Under secret cs
 Under secret (finish other m ∷ cs) = (other ≡ secret) × Under secret cs
-Under secret (feed rest k resumes ∷ cs) = Under secret cs
+Under secret (feed rest k tell ∷ cs) = Under secret cs
 
--- And every order is completed, under any secret of 48 bytes, by calls that are all answered 0.
-pub record Completed (resumes : Bool) (l secret : List ℕ) : Type 0 where
+-- And every order is completed with either hash, under any secret of 48 bytes, by calls that are all answered 0.
+pub record Completed (tell : Told) (l secret : List ℕ) : Type 0 where
   pub calls : List Call
   pub taken : AllTaken (whole fresh) calls
   pub under : Under secret calls
   pub types : typesOf (historyOf (standingFrom (whole fresh) calls)) ≡ l
-  pub told : resumed (historyOf (standingFrom (whole fresh) calls)) ≡ resumes
+  pub told : resumed (historyOf (standingFrom (whole fresh) calls)) ≡ tell .resumes
+  pub hash : choiceOf (historyOf (standingFrom (whole fresh) calls)) ≡ chosen (tell .hash)
   pub complete : complete (historyOf (standingFrom (whole fresh) calls)) ≡ true
 
 abbrev pub EveryOrder : Type 0
-EveryOrder = (resumes : Bool) (l secret : List ℕ) → length secret ≡ 48 → List·Memᴰ l (orders resumes) → Completed resumes l secret
+EveryOrder = (tell : Told) (l secret : List ℕ) → length secret ≡ 48 → List·Memᴰ l (orders (tell .resumes)) → Completed tell l secret
+
+-- Order 7: where the session hash is given or a Finished is due, one of the hashes is chosen. The proof is proofs/Chosen.antt.
+pub record Chosen (h : History) : Type 0 where
+  pub hash : Algorithm
+  pub made : choiceOf h ≡ chosen hash
+
+-- and the session hash is as wide as that hash: 32 or 48 bytes
+abbrev pub SessionWidth : Type 0
+SessionWidth = (h : History) → inOrder h ≡ true → exchanged h ≡ true → length (sessionHash h) ≡ widthOf (suiteOf h)
+
+-- of what the calls ensure: whoever is given a session hash or a Finished value has chosen, and of the former there are so many bytes
+pub record GivenByChosen (log : Log) (s : Standing) : Type 0 where
+  pub session : (r : SessionHash) → Hashes log r → r .refusal .number ≡ 0 → Chosen (historyOf s) × (r .length ≡ widthOf (suiteOf (historyOf s)))
+  pub expected : (secret : List ℕ) (r : Expected) → Expects log secret r → r .refusal .number ≡ 0 → Chosen (historyOf s)
+
+abbrev pub GivenChosen : Type 0
+GivenChosen = (log : Log) (s : Standing) → Stands log s → GivenByChosen log s
+
+abbrev pub ChoiceMade : Type 0
+ChoiceMade = (h : History) → inOrder h ≡ true → (exchanged h || finishedDue (placeOf h)) ≡ true → Chosen h

@@ -2,10 +2,11 @@
 -- checked values alone. The proofs are proofs/Runs.antt and, that there is a run for every list, proofs/Total.antt.
 -- Assumes nothing.
 use mathlib.Core.Path.{_≡_}
-use mathlib.Core.Bool.{Bool, true}
+use mathlib.Core.Bool.{true}
 use mathlib.Core.List.{List, [], _∷_}
 use Prim.Native.Nat.{ℕ}
 use Rattle.message.specs.Frame.{bodyOf}
+use Rattle.log.specs.Told.{Told}
 use Rattle.log.specs.History.{Beside, History, Side, isFrom, complete, verifyDataOf}
 use Rattle.log.specs.History.History.{fresh, accepted}
 use Rattle.log.specs.History.Beside.{under}
@@ -22,20 +23,20 @@ use Rattle.log.specs.declared.answers.Fed.{Fed}
 
 -- the calls that hand back a log, with what they are handed beside it
 pub data Call : Type 0 where
-  accept : List ℕ → Bool → Call
+  accept : List ℕ → Told → Call
   finish : List ℕ → List ℕ → Call
-  feed : List ℕ → ℕ → Bool → Call
+  feed : List ℕ → ℕ → Told → Call
 
 -- what the definitions answer, and what the log stands for after it
 unfoldable pub numberOf : Standing → Call → ℕ
-numberOf s (accept m resumes) = acceptNumber s m resumes
+numberOf s (accept m tell) = acceptNumber s m tell
 numberOf s (finish secret m) = finishNumber s secret m
-numberOf s (feed rest k resumes) = feedNumber s rest k resumes
+numberOf s (feed rest k tell) = feedNumber s rest k tell
 
 unfoldable pub after : Standing → Call → Standing
-after s (accept m resumes) = afterAccept s m resumes
+after s (accept m tell) = afterAccept s m tell
 after s (finish secret m) = afterFinish s secret m
-after s (feed rest k resumes) = afterFeed s rest k resumes
+after s (feed rest k tell) = afterFeed s rest k tell
 
 unfoldable pub standingFrom : Standing → List Call → Standing
 standingFrom s [] = s
@@ -44,9 +45,9 @@ standingFrom s (c ∷ cs) = standingFrom (after s c) cs
 -- One call on a log: the log passed, the call, and the log afterwards. The premises are what the contracts of the three calls ensure, and
 -- nothing else.
 pub data Step : Log → Call → Log → Type 0 where
-  accepting : {log : Log} {m : List ℕ} {resumes : Bool} {r : Accepted} → Accepts log m resumes r → Step log (accept m resumes) (r .log)
+  accepting : {log : Log} {m : List ℕ} {tell : Told} {r : Accepted} → Accepts log m tell r → Step log (accept m tell) (r .log)
   finishing : {log : Log} {secret m : List ℕ} {r : Accepted} → Finishes log secret m r → Step log (finish secret m) (r .log)
-  feeding : {log : Log} {rest : List ℕ} {k : ℕ} {resumes : Bool} {r : Fed} → Feeds log rest k resumes r → Step log (feed rest k resumes) (r .log)
+  feeding : {log : Log} {rest : List ℕ} {k : ℕ} {tell : Told} {r : Fed} → Feeds log rest k tell r → Step log (feed rest k tell) (r .log)
 
 -- each call gets the log that the one before it handed back
 pub data Run : Log → List Call → Log → Type 0 where

@@ -4,13 +4,14 @@ use mathlib.Core.Bool.{Bool, true, false}
 use mathlib.Core.List.{List, _++_}
 use Prim.Native.Nat.{ℕ, _-_}
 use lib.ListN.{length}
+use Rattle.log.specs.Told.{Told}
 use Rattle.log.specs.History.{History, hashed}
 
 -- A message that has begun to enter: the bytes that were taken of it, how many there are in all, and what was told with the first part.
 pub record Part : Type 0 where
   pub got : List ℕ
   pub total : ℕ
-  pub resumes : Bool
+  pub tell : Told
 
 pub data Standing : Type 0 where
   whole : History → Standing

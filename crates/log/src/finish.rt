@@ -61,8 +61,17 @@ impl Log {
     {
         let server = order::from_server(self.place);
         let place = order::next(self.place, shape::FINISHED, false);
-        let mut worked = 0;
-        self = self.entered(message, shape::FINISHED, place, 0, &mut worked);
+        let mut worked256 = 0;
+        let mut worked384 = 0;
+        self = self.entered(
+            message,
+            shape::FINISHED,
+            place,
+            0,
+            0,
+            &mut worked256,
+            &mut worked384,
+        );
         if server {
             self.server = value;
             return self;
@@ -119,7 +128,12 @@ impl Log {
         ensures { λ r. ⌜ ((h : History) → Stands self (whole h) → r ≡ expectedValue h (now (secret .entry))) ⌝ }
     {
         let hash = self.hash;
-        let verified = prf::verify_data(secret, order::from_server(self.place), hash.digest());
+        let server = order::from_server(self.place);
+        if hash.is_sha384() {
+            let verified = prf::verify_data384(secret, server, hash.digest384());
+            return verified.value;
+        }
+        let verified = prf::verify_data(secret, server, hash.digest256());
         verified.value
     }
 }

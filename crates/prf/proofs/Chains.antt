@@ -1,12 +1,17 @@
--- The chain, over a lawful hash: A(i + 1) of A(i), one part more of the output, and the end of the output within the last part.
+-- The chain, over a lawful hash: A(i + 1) of A(i), one part more of the output, and the end of the output within the last part, each
+-- part as the code puts it.
 -- Assumes nothing.
 use mathlib.Core.Path.{_≡_, sym, _∙_, ap}
 use mathlib.Core.List.{List, [], _++_, append-nil}
-use Prim.Native.Nat.{ℕ, suc, _+_, _*_, _≤_}
-use native.Mathlib.Nat.{mul-suc, mul-zero}
+use Prim.Native.Nat.{ℕ, suc, _+_, _-_, _*_, _/_, _%_, _≤_}
+use native.Mathlib.Nat.{mul-suc, mul-zero, div-add-mod, mod-lt}
 use native.Mathlib.Omega.{arith}
+use borrow.Rule.Slice.PartMut.{midOf, putMid}
 use lib.ListN.{length, take, drop, drop-of-length-le}
 use lib.Seq.{paste, take-at, take-length, drop-drop, drop-append-add, take-append-add, length-take-le}
+use Rattle.seqs.proofs.Taking.{blocks-of}
+use Rattle.octets.specs.Put.{putList}
+use Rattle.octets.proofs.Places.{put-at}
 use Rattle.prf.specs.Hash.{HashFunction, Lawful}
 use Rattle.prf.specs.Hmac.{hmac}
 use Rattle.prf.specs.Prf.{A, expansion, parts, prf}
@@ -31,7 +36,7 @@ module _ {H : HashFunction} (L : Lawful H) (k seed entry : List ℕ) where
       ∙ drop-drop n (H .width * i) entry in
       rw (t, d)
 
-  pub chain-more : {a mid part a′ exit : List ℕ} (i j : ℕ) → i ≡ suc j → ChainedTo H k seed j a entry mid
+  chain-more : {a mid part a′ exit : List ℕ} (i j : ℕ) → i ≡ suc j → ChainedTo H k seed j a entry mid
       → part ≡ hmac H k (a ++ seed) → a′ ≡ hmac H k a → exit ≡ paste mid (H .width * j) part (length part)
       → ChainedTo H k seed i a′ entry exit
   unfolding A expansion
@@ -44,8 +49,18 @@ module _ {H : HashFunction} (L : Lawful H) (k seed entry : List ℕ) where
         out = rw mul-suc (x ∙ pasted j (length part) part h ∙ (rw (take-length, l)) ∙ ap (λ (r : List ℕ). (expansion H k seed j ++ r) ++ drop (H .width * j + H .width) entry) g);
       })
 
+  -- part i, put behind the i - 1 before it
+  pub chain-put : {a mid part a′ p : List ℕ} (i : ℕ) → (i ≡ 0 → ⊥) → H .width * i ≤ length mid → ChainedTo H k seed (i - 1) a entry mid
+      → part ≡ hmac H k (a ++ seed) → a′ ≡ hmac H k a → p ≡ putList (midOf (H .width * (i - 1)) (length mid - H .width * (i - 1)) mid) part
+      → ChainedTo H k seed i a′ entry (putMid (H .width * (i - 1)) (length mid - H .width * (i - 1)) mid p)
+  chain-put {a} {mid} {part} i z b h f g e =
+      let s : i ≡ suc (i - 1) = omega arith in
+      let l : length part ≡ H .width = ap length f ∙ length-hmac L k (a ++ seed) in
+      let w : H .width * i ≡ H .width * (i - 1) + H .width = ap (λ (n : ℕ). H .width * n) s ∙ mul-suc (H .width) (i - 1) in
+      chain-more i (i - 1) s h f g (put-at mid part (H .width * (i - 1)) (omega arith) e)
+
 -- the output ends within part i + 1, n bytes behind the first i parts
-pub chain-end : {H : HashFunction} → Lawful H → {a mid part exit : List ℕ} (k l s entry : List ℕ) (i n : ℕ) → length entry ≡ H .width * i + n
+chain-end : {H : HashFunction} → Lawful H → {a mid part exit : List ℕ} (k l s entry : List ℕ) (i n : ℕ) → length entry ≡ H .width * i + n
     → n ≤ H .width → parts H (length entry) ≡ suc i → ChainedTo H k (l ++ s) i a entry mid → part ≡ hmac H k (a ++ (l ++ s))
     → exit ≡ paste mid (H .width * i) (take n part) (length (take n part)) → exit ≡ prf H k l s (length entry)
 unfolding prf expansion
@@ -61,3 +76,31 @@ chain-end {H} L {a} {mid} {part} k l s entry i n w b e h p x =
     ∙ (rw (o, append-nil, take-length))
     ∙ sym (take-append-add f part n)
     ∙ (rw (y, e, ← h .last, ← p))
+
+-- n bytes are so many whole parts, and at least one byte of the part behind them
+module _ {H : HashFunction} (L : Lawful H) (n : ℕ) (b : 1 ≤ n) where
+  cut : n ≡ H .width * ((n - 1) / H .width) + ((n - 1) % H .width + 1)
+  cut = omega (arith, div-add-mod (n - 1) (H .width))
+
+  pub rest-fits : n - H .width * ((n - 1) / H .width) ≤ H .width
+  rest-fits = omega (arith, cut, mod-lt (n - 1) (L .some))
+
+  parts-cut : parts H n ≡ suc ((n - 1) / H .width)
+  parts-cut =
+      blocks-of (H .width) (L .some) (suc ((n - 1) / H .width)) ((n - 1) % H .width) (omega (arith, cut, L .some, mul-suc (H .width) ((n - 1) / H .width)))
+      (mod-lt (n - 1) (L .some))
+
+-- the front of the last part, put behind the whole ones
+module _ {H : HashFunction} (L : Lawful H) (k l s entry : List ℕ) where
+  pub chain-last : {a mid part p : List ℕ} (at : ℕ) → at ≡ H .width * ((length entry - 1) / H .width) → 1 ≤ length entry → length mid ≡ length entry
+      → ChainedTo H k (l ++ s) ((length entry - 1) / H .width) a entry mid → part ≡ hmac H k (a ++ (l ++ s))
+      → p ≡ putList (midOf at (length mid - at) mid) (take (length mid - at) part) → putMid at (length mid - at) mid p ≡ prf H k l s (length entry)
+  chain-last {a} {mid} {part} at q b m h f e =
+      let i = (length entry - 1) / H .width in
+      let n = length mid - at in
+      let g : length part ≡ H .width = ap length f ∙ length-hmac L k (a ++ (l ++ s)) in
+      let r : n ≤ H .width = omega (arith, rest-fits L (length entry) b) in
+      let t : length (take n part) ≡ n = length-take-le n part (omega arith) in
+      let c = cut L (length entry) b in
+      chain-end L k l s entry i n (omega (arith, c)) r (parts-cut L (length entry) b) h f
+      (rw (← q) (put-at mid (take n part) at (omega (arith, c)) e))

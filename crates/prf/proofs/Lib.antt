@@ -1,6 +1,9 @@
 pub mod Sha256
+pub mod Sha384
+pub mod Lawful
 pub mod Lengths
 pub mod Masks
+pub mod Keys
 pub mod Numbers
 pub mod Answers
 pub mod Chains

@@ -1,9 +1,13 @@
 -- The number of each call, by the tests that the code makes in their order.
 -- Assumes nothing.
-use mathlib.Core.Path.{_≡_}
+use mathlib.Core.Path.{_≡_, refl, sym, _∙_}
+use mathlib.Core.Bool.{not}
+use mathlib.Core.List.{[], _∷_}
 use Prim.Native.Nat.{ℕ, _≤_, _<_}
-use borrow.Author.Tests.{lt-ltb, le-ltb, eq-eqb, ne-eqb}
+use borrow.Author.Tests.{ltb-false, eqb-true, not-false, lt-ltb, le-ltb, eq-eqb, ne-eqb}
+use lib.Dec.{ltb, eqb}
 use Rattle.refusal.specs.First.{firstOf}
+use Rattle.refusal.proofs.First.{first-zero}
 use Rattle.prf.specs.Promise.{hmacNumber, secretNumber, verifyNumber}
 
 module _ (k m : ℕ) where
@@ -39,6 +43,13 @@ module _ (due p s o : ℕ) where
   pub secret-done : 1 ≤ p → p ≤ 512 → s ≡ due → 48 ≤ o → secretNumber due p s o ≡ 0
   unfolding secretNumber firstOf
   secret-done f g e h = rw (le-ltb p 1 f, le-ltb 512 p g, eq-eqb s due e, le-ltb o 48 h)
+
+-- a call that answers 0 is within its lengths
+pub secret-within : (due p s o : ℕ) {n : ℕ} → n ≡ secretNumber due p s o → n ≡ 0 → (1 ≤ p) × (p ≤ 512) × (s ≡ due) × (48 ≤ o)
+unfolding secretNumber
+secret-within due p s o e z =
+    let t = first-zero ((10, ltb p 1) ∷ (10, ltb 512 p) ∷ (10, not (eqb s due)) ∷ (10, ltb o 48) ∷ []) refl (sym e ∙ z) in
+    (ltb-false p 1 (t .0), ltb-false 512 p (t .1 .0), eqb-true s due (not-false _ (t .1 .1 .0)), ltb-false o 48 (t .1 .1 .1 .0))
 
 pub verify-other : (n : ℕ) → (n ≡ 48 → ⊥) → verifyNumber n ≡ 10
 unfolding verifyNumber firstOf

@@ -10,10 +10,11 @@ use Rattle.seqs.specs.Pick.{pick}
 use Rattle.refusal.specs.First.{firstOf}
 use Rattle.refusal.specs.Table.{refusalOf}
 use Rattle.refusal.specs.declared.Refusal.{Refusal}
-use Rattle.prf.specs.Hash.{HashFunction, SHA256}
+use Rattle.prf.specs.Hash.{HashFunction, SHA256, SHA384}
 use Rattle.prf.specs.Hmac.{hmac}
 use Rattle.prf.specs.Secrets.{verifyData}
 use Rattle.prf.specs.declared.keyed.Tagged.{Tagged}
+use Rattle.prf.specs.declared.keyed384.Tagged384.{Tagged384}
 use Rattle.prf.specs.declared.secrets.Verified.{Verified}
 
 -- 'HMAC at most 65,536 of key and 65,536 of message; more is 10'
@@ -26,6 +27,9 @@ tagOf H key message = pick (eqb (hmacNumber (length key) (length message)) 0) (h
 
 unfoldable pub taggedOf : List ℕ → List ℕ → Tagged
 taggedOf key message = record { refusal = refusalOf (hmacNumber (length key) (length message)); tag = tagOf SHA256 key message }
+
+unfoldable pub tagged384Of : List ℕ → List ℕ → Tagged384
+tagged384Of key message = record { refusal = refusalOf (hmacNumber (length key) (length message)); tag = tagOf SHA384 key message }
 
 -- 'Another seed length, a pre-master secret not 1 to 512 bytes, or an output under 48 is 10': the lengths of the pre-master secret, of
 -- the seed and of the output, with the seed's due length first
@@ -46,5 +50,5 @@ verifyNumber secret = firstOf ((10, not (eqb secret 48)) ∷ [])
 abbrev pub valueOf : HashFunction → List ℕ → Bool → List ℕ → List ℕ
 valueOf H secret server hash = pick (eqb (verifyNumber (length secret)) 0) (verifyData H secret server hash) (replicate 12 0)
 
-unfoldable pub verifiedOf : List ℕ → Bool → List ℕ → Verified
-verifiedOf secret server hash = record { refusal = refusalOf (verifyNumber (length secret)); value = valueOf SHA256 secret server hash }
+unfoldable pub verifiedOf : HashFunction → List ℕ → Bool → List ℕ → Verified
+verifiedOf H secret server hash = record { refusal = refusalOf (verifyNumber (length secret)); value = valueOf H secret server hash }

@@ -1,8 +1,10 @@
 -- One block into the hash value: what FIPS 180-4, section 6.2.2, has of its own, and with it the message schedule, the 64 rounds and the
 -- sums that it shares with the other hashes of the document (`Sha2` and `Ring` of seqs).
 -- Assumes nothing.
+use mathlib.Core.Path.{_≡_}
 use mathlib.Core.List.{List, [], _∷_}
-use Prim.Native.Nat.{ℕ}
+use Prim.Native.Nat.{ℕ, _/_, _%_, _<_}
+use lib.ListN.{getD}
 use Rattle.seqs.specs.Words.{big, bytesOf}
 use Rattle.seqs.specs.Sha2 as sha2
 use Rattle.seqs.specs.Ring as ring
@@ -34,6 +36,12 @@ Ring = ring.Ring parameters
 
 abbrev pub Rolls : List ℕ → List ℕ → Type 0
 Rolls = ring.Rolls parameters
+
+-- so each of the 64 rounds of a block finds its word, by the contracts of `load` and `rolled` alone. The proof is proofs/Rounds.antt.
+abbrev pub EachRound : Type 0
+EachRound =
+    (block : List ℕ) (rings : ℕ → List ℕ) → ring.Rings parameters block rings
+    → (t : ℕ) → t < 64 → getD (rings (t / 16)) (t % 16) 0 ≡ getD (schedule 48 block) t 0
 
 -- 'the resulting 256-bit message digest'
 unfoldable pub output : sha2.Value → List ℕ

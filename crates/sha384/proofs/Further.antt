@@ -1,14 +1,14 @@
--- A hash goes on: for every hash and more bytes there is one that has taken them behind whatever was taken before. And what one hash has taken
--- has one digest.
+-- There is a fresh hash, and a hash goes on: for every hash and more bytes there is one that has taken them behind whatever was taken before.
+-- And what one hash has taken has one digest.
 -- Assumes nothing.
 use mathlib.Core.Path.{_≡_, refl, ap}
-use mathlib.Core.List.{List, _++_}
+use mathlib.Core.List.{List, [], _++_}
 use Prim.Native.Nat.{ℕ, _+_, _-_, _*_, _/_, _%_, _≤_}
 use native.Mathlib.Omega.{arith}
 use lib.ListN.{length, take, drop, replicate, length-append}
 use Rattle.seqs.specs.Blocks.{after}
 use Rattle.seqs.specs.Words.{big}
-use Rattle.seqs.proofs.Taking.{holds-further}
+use Rattle.seqs.proofs.Taking.{holds-none, holds-further}
 use Rattle.seqs.proofs.Ending.{same-end}
 use Rattle.sha384.specs.Layout.{valueOf}
 use Rattle.sha384.specs.Constants.{initial}
@@ -19,6 +19,13 @@ use Rattle.sha384.specs.Promise.{Takes}
 use Rattle.sha384.specs.declared.running.Hash384.{Hash384}
 use Rattle.sha384.proofs.Alone.{stateOf}
 use Rattle.sha384.proofs.Counting.{counts-completed}
+
+pub fresh : Hash384
+fresh = record { state = stateOf initial; tail = replicate 128 0; length = 0 }
+
+pub fresh-runs : Running fresh []
+unfolding fresh
+fresh-runs = record { holds = holds-none 128 (omega arith) step initial; bounded = omega arith }
 
 pub further : Hash384 → List ℕ → Hash384
 further hash b =

@@ -2,7 +2,6 @@
 ghost use mathlib.Core.Path.{_≡_};
 ghost use mathlib.Core.List.{[], _∷_};
 ghost use Prim.Native.Nat.{_<_};
-ghost use lib.ListN.{getD};
 ghost use Rattle.seqs.specs.Words.{big, ofBytes, bytesOf};
 ghost use Rattle.seqs.specs.Operations.{add, rotr, ch, maj};
 ghost use Rattle.sha384.specs.Functions.{σ0, σ1, Σ0, Σ1};

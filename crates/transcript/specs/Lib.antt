@@ -1,3 +1,4 @@
+pub mod Choice
 pub mod Allowance
 pub mod Carries
 pub mod Promise

@@ -1,9 +1,10 @@
-// The published vectors, run: cases from standard input, a line of hex for each on standard output.
+// The published vectors, run: cases from standard input, on standard output two lines of hex for each, SHA-256's and SHA-384's.
 //
 // A case: the length of the message (2 bytes, big-endian), how often it is repeated (2 bytes), the message.
 use libc::STDIN_FILENO;
 use libc::STDOUT_FILENO;
 use sha256::Hash;
+use sha384::Hash384;
 ghost use Prim.Native.Nat.{_<_};
 
 fn main() {
@@ -24,6 +25,7 @@ fn run(cases: &[u8]) {
         }
         let end = at + length;
         print(digest(&cases[at..end], times));
+        print384(digest384(&cases[at..end], times));
         at = end;
     }
 }
@@ -42,6 +44,28 @@ fn print(bytes: [u8; 32]) {
     let mut line = [b'\n'; 65];
     let mut i = 0;
     while i < 32 {
+        let x = bytes[i];
+        line[2 * i] = digit(x / 16 % 16);
+        line[2 * i + 1] = digit(x % 16);
+        i += 1;
+    }
+    io::write_all(STDOUT_FILENO, &line);
+}
+
+fn digest384(piece: &[u8], times: usize) -> [u8; 48] {
+    let mut hash = Hash384::fresh();
+    let mut i: usize = 0;
+    while i < times {
+        hash = hash.absorb(piece).hash;
+        i += 1;
+    }
+    hash.digest()
+}
+
+fn print384(bytes: [u8; 48]) {
+    let mut line = [b'\n'; 97];
+    let mut i = 0;
+    while i < 48 {
         let x = bytes[i];
         line[2 * i] = digit(x / 16 % 16);
         line[2 * i + 1] = digit(x % 16);

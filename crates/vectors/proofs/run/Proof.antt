@@ -55,6 +55,21 @@ digest-requires c κs = search needs
 print-requires : tie.Need-print-requires Inv-loop μ-loop
 print-requires c κs = search needs
 
+sub-digest384 : tie.Need-sub-digest384 Inv-loop μ-loop
+sub-digest384 c = omega arith
+
+part-digest384-start : tie.Need-part-digest384-start Inv-loop μ-loop
+part-digest384-start c = omega arith
+
+part-digest384-end : tie.Need-part-digest384-end Inv-loop μ-loop
+part-digest384-end c = omega arith
+
+digest384-requires : tie.Need-digest384-requires Inv-loop μ-loop
+digest384-requires c κs = search needs
+
+print384-requires : tie.Need-print384-requires Inv-loop μ-loop
+print384-requires c κs = search needs
+
 loop-less : tie.Need-loop-less Inv-loop μ-loop
 loop-less c = omega arith
 
@@ -84,6 +99,11 @@ run-spec =
     part-digest-end
     digest-requires
     print-requires
+    sub-digest384
+    part-digest384-start
+    part-digest384-end
+    digest384-requires
+    print384-requires
     loop-less
     loop-again
     returns-2)

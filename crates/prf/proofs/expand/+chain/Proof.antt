@@ -1,14 +1,11 @@
 -- The cycle of calls {chain}. The measure is i, which falls to 0.
 -- Assumes nothing.
-use mathlib.Core.Path.{_≡_}
 use mathlib.Core.List.{_++_}
-use lib.ListN.{length}
 use native.Mathlib.Omega.{arith}
 use Rattle.prf.proofs.Sha256.{sha256-lawful}
-use Rattle.octets.proofs.Places.{put-at}
-use Rattle.prf.proofs.Chains.{chain-none, chain-more}
+use Rattle.prf.proofs.Chains.{chain-none, chain-put}
 use borrow.Author.Needs.{needs}
-use Prim.Native.Nat.{ℕ, _-_, _*_, _<_}
+use Prim.Native.Nat.{ℕ, _<_}
 use borrow.Fn.Kinds.{In}
 use borrow.Fn.PlainCycle.{Measures, is, falls, and}
 use Rattle.prf.proofs.expand.chain.Reads as chain
@@ -93,10 +90,8 @@ module _ (t : ℕ) where
       let e = d .before .before .before in
       let p = e .before .before .before .before .before in
       let i = p .args .i in
-      let n : length (b .tag2 .result) ≡ 32 = search needs in
-      chain-more sha256-lawful k (p .args .label .now ++ p .args .seed .now) (p .args .out .now) i (i - 1) (omega (arith, e .if1))
-      (d .before .chain .ensures k h) (b .tag2 .ensures k h) (c .tag3 .ensures k h)
-      (put-at (d .before .chain .last .1 .1 .1 .1 .0) (b .tag2 .result) (32 * (i - 1)) (omega (arith, e .if1, p .pre, d .out .given)) (c .before .before .before .before .put .ensures .1))
+      chain-put sha256-lawful k (p .args .label .now ++ p .args .seed .now) (p .args .out .now) i (e .if1 .left) (omega (arith, p .pre, d .out .given))
+      (d .before .chain .ensures k h) (b .tag2 .ensures k h) (c .tag3 .ensures k h) (c .before .before .before .before .put .ensures .1)
 
 pub +chain-spec : {M : Type 1} → statement M
 +chain-spec = close μ-chain λ t. chain-lts.spec (calls t) (chain-at t) chain.Post

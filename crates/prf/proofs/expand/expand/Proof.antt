@@ -1,13 +1,11 @@
 -- The whole parts, and the front of the last.
 -- Assumes nothing.
-use mathlib.Core.Path.{_≡_, sym}
-use Prim.Native.Nat.{_-_, _*_, _/_}
+use mathlib.Core.Path.{_≡_, refl, sym}
 use native.Mathlib.Omega.{arith}
-use lib.ListN.{length, take}
+use lib.ListN.{length}
 use lib.Seq.{length-take-le}
 use Rattle.prf.proofs.Sha256.{sha256-lawful}
-use Rattle.octets.proofs.Places.{put-at}
-use Rattle.prf.proofs.Chains.{chain-end}
+use Rattle.prf.proofs.Chains.{chain-last}
 use borrow.Author.Needs.{needs}
 use Rattle.prf.proofs.expand.expand.Statement.{statement}
 use Rattle.prf.proofs.expand.expand.Tie as tie
@@ -61,14 +59,8 @@ returns c k h =
     let d = b .before .before .before in
     let r = d .before .chain in
     let p = d .before .before .before .before .before .before in
-    let entry = p .args .out .now in
-    let i = (length entry - 1) / 32 in
-    let m = length (r .last .1 .1 .1 .1 .0) - 32 * i in
-    let n : length (b .tag .result) ≡ 32 = search needs in
-    let o : length (take m (b .tag .result)) ≡ m = length-take-le m (b .tag .result) (omega (arith, d .out .given, p .pre)) in
-    chain-end sha256-lawful k (p .args .label .now) (p .args .seed .now) entry i m (omega (arith, d .out .given, p .pre)) (omega (arith, d .out .given, p .pre)) (omega (arith, p .pre))
-    (r .ensures k h) (b .tag .ensures k h)
-    (put-at (r .last .1 .1 .1 .1 .0) (take m (b .tag .result)) (32 * i) (omega (arith, d .out .given, p .pre)) (c .before .before .put .ensures .1))
+    chain-last sha256-lawful k (p .args .label .now) (p .args .seed .now) (p .args .out .now) _ refl (p .pre .2) (d .out .given)
+    (r .ensures k h) (b .tag .ensures k h) (c .before .before .put .ensures .1)
 
 pub expand-spec : {M : Type 1} → statement M
 expand-spec =

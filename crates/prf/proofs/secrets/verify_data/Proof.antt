@@ -1,5 +1,6 @@
 -- Refused by the secret's length, or the first 12 bytes of the output.
 -- Assumes nothing.
+use Rattle.prf.specs.Hash.{SHA256}
 use Rattle.prf.specs.Secrets.{verifyData}
 use Rattle.prf.proofs.Numbers.{verify-other, verify-done}
 use Rattle.prf.proofs.Answers.{verified, unverified}
@@ -13,7 +14,7 @@ refuse-requires c κs = search needs
 returns : tie.Need-returns
 returns c =
     let a = c .before .before .before .args in
-    unverified (a .secret .now) (a .t3) (a .server) _ (c .refuse .ensures) (verify-other _ (c .before .if1 .taken))
+    unverified SHA256 (a .secret .now) (a .t3) (a .server) _ (c .refuse .ensures) (verify-other _ (c .before .if1 .taken))
 
 finished-label-requires : tie.Need-finished-label-requires
 finished-label-requires c κs = search needs
@@ -43,7 +44,7 @@ returns-2 c =
     let b = x .before .before .before .before in
     let a = b .before .before .before .before .args in
     let k = a .secret .now in
-    verified k (a .t3) (a .server) _ _ (c .refuse2 .ensures) (verify-done _ (b .before .before .if1 .left))
+    verified SHA256 k (a .t3) (a .server) _ _ (c .refuse2 .ensures) (verify-done _ (b .before .before .if1 .left))
     (rw (b .before .finished-label .ensures) at (x .expand .ensures k (b .by .ensures)))
 
 pub verify-data-spec : {M : Type 1} → statement M

@@ -9,7 +9,6 @@ use lib.Seq.{paste}
 use borrow.Rule.Slice.PartMut.{midOf, putMid}
 use Rattle.octets.specs.Put.{putList}
 use Rattle.octets.proofs.Places.{put-at}
-use Rattle.listing.specs.Texts.{textOf}
 use Rattle.listing.specs.declared.text.Text.{Text}
 use Rattle.listing.proofs.Zeros.{put-behind, text-of, length-of}
 use borrow.Author.Needs.{needs}

@@ -18,7 +18,7 @@ entered-requires : tie.Need-entered-requires
 entered-requires c κs = search needs
 
 returns-3 : tie.Need-returns-3
-returns-3 c = done-accepts _ _ _ (c .before .before .before .before .before .before .before .turn .result) (c .before .before .before .before .before .before .before .turn .ensures) (c .before .before .before .before .if1 .left) _ _ (c .before .before .if2 .left) (c .entered .ensures)
+returns-3 c = done-accepts _ _ _ (c .before .before .before .before .before .before .before .before .turn .result) (c .before .before .before .before .before .before .before .before .turn .ensures) (c .before .before .before .before .before .if1 .left) _ _ (c .before .before .before .if2 .left) (c .entered .ensures)
 
 pub accept-spec : {M : Type 1} → statement M
 accept-spec = tie.close (tie.spec turn-requires returns returns-2 entered-requires returns-3)

@@ -36,7 +36,7 @@ entered-requires : tie.Need-entered-requires
 entered-requires c κs = search needs
 
 returns-3 : tie.Need-returns-3
-returns-3 c = done-feeds _ _ _ _ (c .before .before .before .before .before .before .before .before .before .before .part .result) (c .before .before .before .before .before .before .before .before .before .before .part .ensures) (c .before .before .before .before .before .before .before .if1 .left) _ _ _ (c .before .before .before .before .before .if2 .left) (c .before .before .before .lets-in .ensures .0) (c .before .before .before .lets-in .ensures .1) (c .entered .ensures)
+returns-3 c = done-feeds _ _ _ _ (c .before .before .before .before .before .before .before .before .before .before .before .part .result) (c .before .before .before .before .before .before .before .before .before .before .before .part .ensures) (c .before .before .before .before .before .before .before .before .if1 .left) _ _ _ (c .before .before .before .before .before .before .if2 .left) (c .before .before .before .before .lets-in .ensures .0) (c .before .before .before .before .lets-in .ensures .1) (c .entered .ensures)
 
 pub feed-spec : {M : Type 1} → statement M
 feed-spec =

@@ -29,7 +29,7 @@ returns-2 : tie.Need-returns-2
 returns-2 c = first-part _ _ _ _ (not-true _ (sym (c .before .before .before .before .allowed .ensures) ∙ not-false _ (c .before .before .before .if1 .left))) (c .turn .result) (c .turn .ensures) (c .before .if2 .taken)
 
 cast-if3 : tie.Need-cast-if3
-cast-if3 c = search needs
+cast-if3 c = omega (arith, left-fits (c .before .before .before .before .before .before))
 
 refuse-requires-2 : tie.Need-refuse-requires-2
 refuse-requires-2 c κs = search needs

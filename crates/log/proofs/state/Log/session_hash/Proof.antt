@@ -11,8 +11,11 @@ exchanged-requires c κs = search needs
 refuse-requires : tie.Need-refuse-requires
 refuse-requires c κs = search needs
 
+width-requires : tie.Need-width-requires
+width-requires c κs = search needs
+
 returns : tie.Need-returns
-returns c = session-given _ _ _ (c .before .before .before .exchanged .ensures) (c .before .refuse .ensures) (c .before .before .if1 .taken)
+returns c = session-given _ _ _ (c .before .before .before .before .exchanged .ensures) _ (c .before .before .refuse .ensures) (c .before .before .before .if1 .taken) (c .before .width .ensures)
 
 refuse-requires-2 : tie.Need-refuse-requires-2
 refuse-requires-2 c κs = search needs
@@ -22,4 +25,5 @@ returns-2 c = session-refused _ _ _ (c .before .before .exchanged .ensures) (c .
 
 pub session-hash-spec : {M : Type 1} → statement M
 session-hash-spec =
-    tie.close (tie.spec exchanged-requires refuse-requires returns refuse-requires-2 returns-2)
+    tie.close
+    (tie.spec exchanged-requires refuse-requires width-requires returns refuse-requires-2 returns-2)

@@ -15,10 +15,10 @@ entered-requires : tie.Need-entered-requires
 entered-requires c κs = search needs
 
 returns : tie.Need-returns
-returns c = takes-server _ _ _ _ (c .before .entered .result) _ (c .before .entered .ensures) (c .before .before .before .next .ensures) _ (c .before .before .before .before .from-server .ensures) (c .if1 .taken)
+returns c = takes-server _ _ _ _ (c .before .entered .result) _ (c .before .entered .ensures) (c .before .before .before .before .next .ensures) _ (c .before .before .before .before .before .from-server .ensures) (c .if1 .taken)
 
 returns-2 : tie.Need-returns-2
-returns-2 c = takes-client _ _ _ _ (c .before .entered .result) _ (c .before .entered .ensures) (c .before .before .before .next .ensures) _ (c .before .before .before .before .from-server .ensures) (c .if1 .left)
+returns-2 c = takes-client _ _ _ _ (c .before .entered .result) _ (c .before .entered .ensures) (c .before .before .before .before .next .ensures) _ (c .before .before .before .before .before .from-server .ensures) (c .if1 .left)
 
 pub taking-spec : {M : Type 1} → statement M
 taking-spec =

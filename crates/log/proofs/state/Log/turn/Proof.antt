@@ -2,6 +2,7 @@
 -- Assumes nothing.
 use native.Mathlib.Omega.{arith}
 use Rattle.log.proofs.Accepting.{shape-turn, between-turn, request-turn, finished-turn, out-turn, other-turn}
+use Rattle.log.proofs.Chosen.{told-byte}
 use borrow.Author.Needs.{needs}
 use Rattle.log.proofs.state.Log.turn.Statement.{statement}
 use Rattle.log.proofs.state.Log.turn.Tie as tie
@@ -34,10 +35,13 @@ refuse-requires-3 : tie.Need-refuse-requires-3
 refuse-requires-3 c κs = search needs
 
 returns-5 : tie.Need-returns-5
-returns-5 c = out-turn _ _ _ (c .before .before .before .before .before .before .before .before .before .before .judge .result) (c .before .before .before .before .before .before .before .before .before .before .judge .ensures) (c .before .before .before .before .before .before .before .if1 .left) (c .before .before .before .before .before .if2 .left) (c .before .before .before .before .if3 .left) (c .before .before .before .if4 .left) _ (c .before .before .next .ensures) _ (c .refuse3 .ensures) (c .before .if5 .taken)
+returns-5 c = out-turn _ _ _ (c .before .before .before .before .before .before .before .before .before .before .before .judge .result) (c .before .before .before .before .before .before .before .before .before .before .before .judge .ensures) (c .before .before .before .before .before .before .before .before .if1 .left) (c .before .before .before .before .before .before .if2 .left) (c .before .before .before .before .before .if3 .left) (c .before .before .before .before .if4 .left) _ (c .before .before .next .ensures) _ (c .refuse3 .ensures) (c .before .if5 .taken)
+
+flag-requires : tie.Need-flag-requires
+flag-requires c κs = search needs
 
 returns-6 : tie.Need-returns-6
-returns-6 c = other-turn _ _ _ (c .before .before .before .before .before .before .before .before .before .judge .result) (c .before .before .before .before .before .before .before .before .before .judge .ensures) (c .before .before .before .before .before .before .if1 .left) (c .before .before .before .before .if2 .left) (c .before .before .before .if3 .left) (c .before .before .if4 .left) _ (c .before .next .ensures) (c .if5 .left)
+returns-6 c = other-turn _ _ _ (c .before .before .before .before .before .before .before .before .before .before .before .judge .result) (c .before .before .before .before .before .before .before .before .before .before .before .judge .ensures) (c .before .before .before .before .before .before .before .before .if1 .left) (c .before .before .before .before .before .before .if2 .left) (c .before .before .before .before .before .if3 .left) (c .before .before .before .before .if4 .left) _ (c .before .before .next .ensures) (c .before .if5 .left) _ (told-byte (c .before .before .before .before .before .before .before .before .before .before .before .before .before .args .told .sha384) (c .flag .ensures))
 
 pub turn-spec : {M : Type 1} → statement M
 turn-spec =
@@ -53,4 +57,5 @@ turn-spec =
     next-requires
     refuse-requires-3
     returns-5
+    flag-requires
     returns-6)

@@ -1,6 +1,7 @@
 -- Both blocks of the key are taken.
 -- Assumes nothing.
-use Rattle.prf.specs.Hmac.{innerKey, outerKey}
+use Rattle.prf.specs.Hash.{SHA256}
+use Rattle.prf.proofs.Keys.{keys-taken}
 use borrow.Author.Needs.{needs}
 use Rattle.prf.proofs.keyed.Keyed.by.Statement.{statement}
 use Rattle.prf.proofs.keyed.Keyed.by.Tie as tie
@@ -21,13 +22,9 @@ of-block-requires-2 : tie.Need-of-block-requires-2
 of-block-requires-2 c κs = search needs
 
 returns : tie.Need-returns
-unfolding innerKey outerKey
 returns c =
-    let k = c .before .before .before .before .key-block .ensures in
-    record {
-      inner = rw (c .before .before .before .masked .ensures, k) at (c .before .before .of-block .ensures);
-      outer = rw (c .before .masked2 .ensures, k) at (c .of-block2 .ensures);
-    }
+    let b = c .before .before .before in
+    keys-taken SHA256 _ (b .before .key-block .ensures) (b .masked .ensures) (c .before .masked2 .ensures) (c .before .before .of-block .ensures) (c .of-block2 .ensures)
 
 pub by-spec : {M : Type 1} → statement M
 by-spec =

@@ -1,7 +1,8 @@
 -- The outer hash of the inner digest.
 -- Assumes nothing.
 use native.Mathlib.Omega.{arith}
-use Rattle.prf.specs.Hmac.{hmac}
+use Rattle.prf.specs.Hash.{SHA256}
+use Rattle.prf.proofs.Keys.{hmac-outer}
 use borrow.Author.Needs.{needs}
 use Rattle.prf.proofs.keyed.Keyed.tag.Statement.{statement}
 use Rattle.prf.proofs.keyed.Keyed.tag.Tie as tie
@@ -13,8 +14,8 @@ ended-by-requires : tie.Need-ended-by-requires
 ended-by-requires c κs = search needs
 
 returns : tie.Need-returns
-unfolding hmac
-returns c k h = rw (← c .before .before .ended .ensures _ (h .inner) (omega arith)) (c .ended-by .ensures _ (h .outer))
+returns c k h =
+    hmac-outer SHA256 k _ (c .before .before .ended .ensures _ (h .inner) (omega arith)) (c .ended-by .ensures _ (h .outer))
 
 pub tag-spec : {M : Type 1} → statement M
 tag-spec = tie.close (tie.spec ended-requires ended-by-requires returns)

@@ -1,0 +1,96 @@
+-- More bytes enter each carried hash, and the other one stays fresh.
+-- Assumes nothing.
+use mathlib.Core.Path.{_≡_, refl}
+use mathlib.Core.List.{List, _++_}
+use Prim.Native.Nat.{ℕ, _+_, _≤_}
+use native.Mathlib.Omega.{arith}
+use lib.ListN.{length}
+use Rattle.sha256.specs.Running.{most}
+use Rattle.sha256.specs.Promise as sha256-specs
+use Rattle.sha256.specs.declared.running.Hash.{Hash}
+use Rattle.sha384.specs.Promise as sha384-specs
+use Rattle.sha384.specs.declared.running.Hash384.{Hash384}
+use Rattle.transcript.specs.Choice.{Algorithm, Choice}
+use Rattle.transcript.specs.Choice.Algorithm.{sha-256, sha-384}
+use Rattle.transcript.specs.Choice.Choice.{unchosen, chosen}
+use Rattle.transcript.specs.Allowance.{blocks}
+use Rattle.transcript.specs.Carries.{choiceNumber, Carries}
+use Rattle.transcript.specs.Promise.{each, Enters}
+use Rattle.transcript.specs.declared.Transcript.{Transcript}
+
+-- a transcript has one number for what is chosen
+pub same-choice : (c d : Choice) → choiceNumber c ≡ choiceNumber d → c ≡ d
+same-choice unchosen unchosen e = refl
+same-choice unchosen (chosen sha-256) e = absurd (omega (arith, e))
+same-choice unchosen (chosen sha-384) e = absurd (omega (arith, e))
+same-choice (chosen sha-256) unchosen e = absurd (omega (arith, e))
+same-choice (chosen sha-256) (chosen sha-256) e = refl
+same-choice (chosen sha-256) (chosen sha-384) e = absurd (omega (arith, e))
+same-choice (chosen sha-384) unchosen e = absurd (omega (arith, e))
+same-choice (chosen sha-384) (chosen sha-256) e = absurd (omega (arith, e))
+same-choice (chosen sha-384) (chosen sha-384) e = refl
+
+module _ (t : Transcript) (b : List ℕ) where
+  module _ (h : Hash384) (w : ℕ) (k : sha384-specs.Takes (t .sha384) b h w) where
+    pub enters-384 : t .choice ≡ 2 → Enters t b (record { sha256 = t .sha256; sha384 = h; choice = t .choice }) (each 0 w)
+    unfolding blocks
+    enters-384 e =
+        record {
+          carries = goes;
+          counts = counts;
+        }
+      where
+        goes : (c : Choice) (m : List ℕ) → Carries t c m → length m + length b ≤ most
+            → Carries (record { sha256 = t .sha256; sha384 = h; choice = t .choice }) c (m ++ b)
+        goes unchosen m p l = absurd (omega (arith, e, p .choice))
+        goes (chosen sha-256) m p l = absurd (omega (arith, e, p .choice))
+        goes (chosen sha-384) m p l = record { choice = p .choice; sha256 = p .sha256; sha384 = k .runs m (p .sha384) l }
+
+        counts : (c : Choice) (m : List ℕ) → Carries t c m → (a : Algorithm) → each 0 w a ≡ blocks c a m b
+        counts unchosen m p a = absurd (omega (arith, e, p .choice))
+        counts (chosen sha-256) m p a = absurd (omega (arith, e, p .choice))
+        counts (chosen sha-384) m p sha-256 = refl
+        counts (chosen sha-384) m p sha-384 = k .counts m (p .sha384)
+
+  module _ (g : Hash) (v : ℕ) (j : sha256-specs.Takes (t .sha256) b g v) where
+    pub enters-256 : t .choice ≡ 1 → Enters t b (record { sha256 = g; sha384 = t .sha384; choice = t .choice }) (each v 0)
+    unfolding blocks
+    enters-256 e =
+        record {
+          carries = goes;
+          counts = counts;
+        }
+      where
+        goes : (c : Choice) (m : List ℕ) → Carries t c m → length m + length b ≤ most
+            → Carries (record { sha256 = g; sha384 = t .sha384; choice = t .choice }) c (m ++ b)
+        goes unchosen m p l = absurd (omega (arith, e, p .choice))
+        goes (chosen sha-256) m p l = record { choice = p .choice; sha256 = j .runs m (p .sha256) l; sha384 = p .sha384 }
+        goes (chosen sha-384) m p l = absurd (omega (arith, e, p .choice))
+
+        counts : (c : Choice) (m : List ℕ) → Carries t c m → (a : Algorithm) → each v 0 a ≡ blocks c a m b
+        counts unchosen m p a = absurd (omega (arith, e, p .choice))
+        counts (chosen sha-256) m p sha-256 = j .counts m (p .sha256)
+        counts (chosen sha-256) m p sha-384 = refl
+        counts (chosen sha-384) m p a = absurd (omega (arith, e, p .choice))
+
+    module _ (h : Hash384) (w : ℕ) (k : sha384-specs.Takes (t .sha384) b h w) where
+      pub enters-both : (t .choice ≡ 1 → ⊥) → (t .choice ≡ 2 → ⊥)
+          → Enters t b (record { sha256 = g; sha384 = h; choice = t .choice }) (each v w)
+      unfolding blocks
+      enters-both e f =
+          record {
+            carries = goes;
+            counts = counts;
+          }
+        where
+          goes : (c : Choice) (m : List ℕ) → Carries t c m → length m + length b ≤ most
+              → Carries (record { sha256 = g; sha384 = h; choice = t .choice }) c (m ++ b)
+          goes unchosen m p l = record { choice = p .choice; sha256 = j .runs m (p .sha256) l; sha384 = k .runs m (p .sha384) l }
+          goes (chosen sha-256) m p l = absurd (e (p .choice))
+          goes (chosen sha-384) m p l = absurd (f (p .choice))
+
+          counts : (c : Choice) (m : List ℕ) → Carries t c m → (a : Algorithm) → each v w a ≡ blocks c a m b
+          counts unchosen m p sha-256 = j .counts m (p .sha256)
+          counts unchosen m p sha-384 = k .counts m (p .sha384)
+          counts (chosen sha-256) m p a = absurd (e (p .choice))
+          counts (chosen sha-384) m p a = absurd (f (p .choice))
