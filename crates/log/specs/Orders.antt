@@ -147,17 +147,18 @@ pub record Chosen (h : History) : Type 0 where
   pub hash : Algorithm
   pub made : choiceOf h ≡ chosen hash
 
--- and the session hash is as wide as that hash: 32 or 48 bytes
+abbrev pub ChoiceMade : Type 0
+ChoiceMade = (h : History) → inOrder h ≡ true → (exchanged h || finishedDue (placeOf h)) ≡ true → Chosen h
+
+-- And the session hash is as wide as that hash: 32 or 48 bytes. The proof is there too.
 abbrev pub SessionWidth : Type 0
 SessionWidth = (h : History) → inOrder h ≡ true → exchanged h ≡ true → length (sessionHash h) ≡ widthOf (suiteOf h)
 
--- of what the calls ensure: whoever is given a session hash or a Finished value has chosen, and of the former there are so many bytes
+-- Both of what the calls ensure: whoever is given a session hash or a Finished value has chosen, and of the former there are so many bytes.
+-- The proof is proofs/Asking.antt.
 pub record GivenByChosen (log : Log) (s : Standing) : Type 0 where
   pub session : (r : SessionHash) → Hashes log r → r .refusal .number ≡ 0 → Chosen (historyOf s) × (r .length ≡ widthOf (suiteOf (historyOf s)))
   pub expected : (secret : List ℕ) (r : Expected) → Expects log secret r → r .refusal .number ≡ 0 → Chosen (historyOf s)
 
 abbrev pub GivenChosen : Type 0
 GivenChosen = (log : Log) (s : Standing) → Stands log s → GivenByChosen log s
-
-abbrev pub ChoiceMade : Type 0
-ChoiceMade = (h : History) → inOrder h ≡ true → (exchanged h || finishedDue (placeOf h)) ≡ true → Chosen h

@@ -45,6 +45,6 @@ Tight =
     (c : Choice) (k : ℕ) (m b : List ℕ)
     → (length b ≤ room c k m → (a : Algorithm) → blocks c a m b ≤ k) × (length b ≡ room c k m + 1 → Over c k m b)
 
--- with both carried SHA-256's room is never the larger one
+-- with both carried SHA-256's room is never the larger one. The proof is specs/Laws.antt.
 abbrev pub Room256IsSmaller : Type 0
 Room256IsSmaller = (k : ℕ) (m : List ℕ) → room unchosen k m ≡ roomOf sha-256 k m
