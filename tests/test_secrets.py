@@ -90,7 +90,7 @@ def test_rfc_4231():
 
 def test_lengths_of_key_and_message():
     r = random.Random(1)
-    lengths = [0, 1, 31, 32, 47, 48, 55, 56, 63, 64, 65, 111, 112, 127, 128, 129, 131, 1000, 65_535, 65_536, 65_537, 70_000]
+    lengths = [0, 1, 31, 32, 47, 48, 55, 56, 63, 64, 65, 111, 112, 119, 120, 127, 128, 129, 131, 239, 240, 1000, 65_535, 65_536, 65_537, 70_000]
     for sha384, k, m in itertools.product(BOTH, lengths, lengths):
         agree(sha384, r.randbytes(k), r.randbytes(m))
 

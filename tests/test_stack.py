@@ -11,11 +11,10 @@ LIBRARY = ROOT / "target/staticlib/libgateway.a"
 KNOWN = {"known_return": 8, "known_thousand": 8 + 1000, "known_by_value": 8 + 112}
 SLACK = 64  # a limit that stands this far above what is written is to be lowered
 BY_HASH = ("axle_extended_master_secret", "axle_master_secret", "axle_log_finish", "axle_log_expected_finished")
-MISSED = "axle_log_finish.sha256"  # the aim of 2,048: docs/DECISIONS.md says why
 AIMS = {
     **{f"axle_{name}": 1280 for name in ("hash384_fresh", "hash384_absorb", "hash384_digest", "sha384")},
     "axle_hmac_sha384": 1800,
-    **{f"{name}.sha256": 2048 for name in BY_HASH if f"{name}.sha256" != MISSED},
+    **{f"{name}.sha256": 2048 for name in BY_HASH},
     **{f"{name}.sha384": 2816 for name in BY_HASH},
 }
 

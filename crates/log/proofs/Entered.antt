@@ -4,15 +4,18 @@ use mathlib.Core.Path.{_≡_, refl}
 use mathlib.Core.List.{List}
 use Prim.Native.Nat.{ℕ}
 use native.Mathlib.Omega.{arith}
-use borrow.Author.Tests.{eq-eqb, ne-eqb}
+use lib.Dec.{eqb}
+use borrow.Author.Tests.{eq-eqb, ne-eqb, eqb-true, eqb-false}
 use Rattle.seqs.specs.Flag.{yes}
+use Rattle.seqs.specs.Cases.{by-test}
 use Rattle.transcript.specs.Choice.{Algorithm, Choice, algorithmBy, algorithmOf}
 use Rattle.transcript.specs.Choice.Choice.{unchosen, chosen}
 use Rattle.transcript.specs.Carries.{Carries, digestOf}
-use Rattle.transcript.specs.Promise.{Enters}
+use Rattle.transcript.specs.Promise.{Enters, EntersTo}
+use Rattle.transcript.specs.Laws.{enters-on}
 use Rattle.transcript.specs.declared.Transcript.{Transcript}
 use Rattle.log.specs.Suite.{inField}
-use Rattle.log.specs.Steps.{Entered}
+use Rattle.log.specs.Steps.{CarriedBehind, Entered}
 use Rattle.log.specs.declared.state.Log.{Log}
 
 module _ (log : Log) (bytes : List ℕ) (k p n left : ℕ) (hash : Transcript) (worked : Algorithm → ℕ) (x : Enters (log .hash) bytes hash worked) where
@@ -87,3 +90,32 @@ module _ (log : Log) (bytes : List ℕ) (k p n left : ℕ) (hash : Transcript) (
             stays = λ _ _. refl;
             session = λ _ c m h. rw (ne-eqb k 16 z);
           }
+
+-- as the code has it: the hashes in one call, with what is carried behind the bytes
+module _ (log : Log) (bytes : List ℕ) (k p n left choice : ℕ) (y : CarriedBehind log k n left choice) (next : Transcript) (worked : Algorithm → ℕ)
+    (x : EntersTo (log .hash) bytes choice next worked) where
+  abbrev With : ℕ → List ℕ → ℕ → ℕ → ℕ → Type 0
+  With place session kind then told =
+      Entered log bytes k p n left
+      (record { hash = next; place = place; session = session; client = log .client; server = log .server; kind = kind; next = then; sha384 = told; left = left })
+      worked
+
+  pub part-entered : (left ≡ 0 → ⊥) → With (log .place) (log .session) k p n
+  part-entered z = entered-part log bytes k p n left next worked (enters-on x (y .stays (λ e. absurd (z e)))) z
+
+  module _ (e : left ≡ 0) where
+    stays : (k ≡ 2 → ⊥) → Enters (log .hash) bytes next worked
+    stays o = enters-on x (y .stays (λ _ q. o q))
+
+    pub exchange-entered : k ≡ 16 → (session : List ℕ) → ((c : Choice) (m : List ℕ) → Carries next c m → session ≡ inField (digestOf (algorithmOf c) m))
+        → With p session 0 0 0
+    exchange-entered z session f = let o : k ≡ 2 → ⊥ = λ q. omega (arith, z, q) in entered-exchange log bytes k p n left next worked (stays o) e o z session f
+
+    -- a ServerHello, or another one
+    pub other-entered : (k ≡ 16 → ⊥) → With p (log .session) 0 0 0
+    other-entered z =
+        by-test (eqb k 2)
+        (λ q.
+        let w = eqb-true k 2 q in
+        entered-server log bytes k p n left (x .hash) worked (x .enters) e w next (λ m h. x .chooses (algorithmBy (yes n)) m h (y .chosen e w)))
+        (λ q. let o = eqb-false k 2 q in entered-other log bytes k p n left next worked (stays o) e o z)

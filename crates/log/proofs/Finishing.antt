@@ -20,6 +20,8 @@ use Rattle.octets.specs.Equal.{same-true}
 use Rattle.message.specs.Frame.{kindOf, bodyOf, overlong, misstated}
 use Rattle.transcript.specs.Choice.{Algorithm}
 use Rattle.transcript.specs.Carries.{digestOf}
+use Rattle.transcript.specs.Promise.{Enters}
+use Rattle.transcript.specs.declared.Transcript.{Transcript}
 use Rattle.prf.specs.Promise.{verifyNumber, verifiedOf}
 use Rattle.prf.specs.declared.secrets.Verified.{Verified}
 use Rattle.log.specs.Suite.{functionOf}
@@ -32,13 +34,12 @@ use Rattle.log.specs.Calls.{misshapen, shapeNumber, brokenAt, isFinished
 use Rattle.log.specs.Finish.{expectedValue, expectedNumber, expectedOf, finishNumber, afterFinish, Compared}
 use Rattle.log.specs.Stands.{Stands, Placed, number}
 use Rattle.log.specs.Promise.{Finishes, Expects}
-use Rattle.log.specs.Steps.{Judges, InTurn, Entered, Asks, Takes, Compares}
+use Rattle.log.specs.Steps.{Judges, InTurn, Asks, Takes, Compares}
 use Rattle.log.specs.declared.shape.Judged.{Judged}
 use Rattle.log.specs.declared.state.Log.{Log}
 use Rattle.log.specs.declared.answers.Accepted.{Accepted}
 use Rattle.log.specs.declared.answers.Expected.{Expected}
 use Rattle.log.proofs.Messages.{Fine, fine, shape-most}
-use Rattle.log.proofs.Chosen.{hash-stands}
 use Rattle.log.proofs.Standing.{by-whole, by-parted, far, carried, taking-stands}
 
 -- verify_data of the Finished that is due, from what the calls answer
@@ -198,7 +199,7 @@ module _ (log : Log) (secret m : List ℕ) where
             go (parted h p) st = absurd (due-not-between log b w (not-false b x) h p st)
 
 -- the log that has taken a Finished: the message has entered, and the value stands with its side
-module _ (log : Log) (m value : List ℕ) (q : ℕ) (r : Log) (worked : Algorithm → ℕ) (x : Entered log m 20 q 0 0 r worked)
+module _ (log : Log) (m value : List ℕ) (q : ℕ) (hash : Transcript) (worked : Algorithm → ℕ) (x : Enters (log .hash) m hash worked)
     (e : (p : Place) → log .place ≡ number p → q ≡ number (look 20 (turns false p)))
     (b : Bool) (w : (h : History) → Placed (log .place) h → b ≡ fromServer h) where
   in-turn : (h : History) (secret : List ℕ) → Stands log (whole h) → length m ≤ 16388 → finishedDue (placeOf h) ≡ true → kindOf m ≡ 20
@@ -209,17 +210,16 @@ module _ (log : Log) (m value : List ℕ) (q : ℕ) (r : Log) (worked : Algorith
 
   takes-by : (value₁ value₂ : List ℕ) → value₁ ≡ pick b (log .client) value → value₂ ≡ pick b value (log .server)
       → Takes log m value
-      (record { hash = r .hash; place = r .place; session = r .session; client = value₁; server = value₂; kind = r .kind; next = r .next; sha384 = r .sha384; left = r .left })
-  unfolding isFrom Compared
+      (record { hash = hash; place = q; session = log .session; client = value₁; server = value₂; kind = log .kind; next = log .next; sha384 = log .sha384; left = log .left })
+  unfolding choiceOf isFrom Compared
   takes-by value₁ value₂ f g h secret s l d c v =
       let t = in-turn h secret s l d (c .kind) in
-      let y = x .last refl in
-      let i = carried log (whole h) [] m s (sym (append-nil (hashed h))) l (far log (whole h) m (under secret) 20 q 0 s t) (x .hash) worked (x .enters) in
+      let i = carried log (whole h) [] m s (sym (append-nil (hashed h))) l (far log (whole h) m (under secret) 20 q 0 s t) hash worked x in
       taking-stands log (whole h) m (under secret) 20 q 0 s t
-      (record { hash = r .hash; place = r .place; session = r .session; client = value₁; server = value₂; kind = r .kind; next = r .next; sha384 = r .sha384; left = r .left })
-      (hash-stands log (whole h) m m (hashed h ++ m) (under secret) 20 q 0 r worked s t x i) (y .0) (x .session refl (choiceOf h) (hashed h ++ m) i)
+      (record { hash = hash; place = q; session = log .session; client = value₁; server = value₂; kind = log .kind; next = log .next; sha384 = log .sha384; left = log .left })
+      (rw (c .kind) i) refl refl
       (f ∙ (rw (v, w h (s .place)) (clients (fromServer h)))) (g ∙ (rw (v, w h (s .place))))
-      (record { kind = y .1 .kind; next = y .1 .next; sha384 = y .1 .sha384; left = y .1 .left }) (c, s .compared)
+      (record { kind = s .part .kind; next = s .part .next; sha384 = s .part .sha384; left = s .part .left }) (c, s .compared)
     where
       clients : (x : Bool) → pick x (log .client) value ≡ pick (not x) value (log .client)
       clients true = refl
@@ -227,13 +227,13 @@ module _ (log : Log) (m value : List ℕ) (q : ℕ) (r : Log) (worked : Algorith
 
   pub takes-server : b ≡ true
       → Takes log m value
-      (record { hash = r .hash; place = r .place; session = r .session; client = r .client; server = value; kind = r .kind; next = r .next; sha384 = r .sha384; left = r .left })
-  takes-server z = takes-by (r .client) value (x .client ∙ (rw z)) (rw z)
+      (record { hash = hash; place = q; session = log .session; client = log .client; server = value; kind = log .kind; next = log .next; sha384 = log .sha384; left = log .left })
+  takes-server z = takes-by (log .client) value (rw z) (rw z)
 
   pub takes-client : b ≡ false
       → Takes log m value
-      (record { hash = r .hash; place = r .place; session = r .session; client = value; server = r .server; kind = r .kind; next = r .next; sha384 = r .sha384; left = r .left })
-  takes-client z = takes-by value (r .server) (rw z) (x .server ∙ (rw z))
+      (record { hash = hash; place = q; session = log .session; client = value; server = log .server; kind = log .kind; next = log .next; sha384 = log .sha384; left = log .left })
+  takes-client z = takes-by value (log .server) (rw z) (rw z)
 
 -- the ways out of the joined call: it hands on the refusal of `ask`, or refuses by 8
 module _ (log : Log) (secret m : List ℕ) (a : Refusal) (o : Asks log secret m a) where

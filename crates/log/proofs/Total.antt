@@ -284,12 +284,12 @@ module _ (log : Log) (s : Standing) (st : Stands log s) where
         record { left = left; step = finishing (compared-finishes log secret m r o z v u _ (compares-equal log m v (same (bodyOf m) v) refl (refusalOf 0) e refl left t)) } in
         let q : ℕ = number (look 20 (turns false (placeOf (historyOf s)))) in
         let l : (p : Place) → log .place ≡ number p → q ≡ number (look 20 (turns false p)) = λ p e. ap (λ (x : Place). number (look 20 (turns false x))) (same-places p e) in
-        let i = entry m 20 q 0 0 (omega (arith, fine m (o .shape z) .longest)) in
+        let i = further (log .hash) m in
         by-test (same (bodyOf m) v)
         (λ e.
         by-test (fromServer (historyOf s))
-        (λ f. d _ (takes-server log m v q (i .log′) (blocksOf (i .worked)) (i .enters) l (fromServer (historyOf s)) same-side f) e)
-        (λ f. d _ (takes-client log m v q (i .log′) (blocksOf (i .worked)) (i .enters) l (fromServer (historyOf s)) same-side f) e))
+        (λ f. d _ (takes-server log m v q (i .next) _ (i .enters) l (fromServer (historyOf s)) same-side f) e)
+        (λ f. d _ (takes-client log m v q (i .next) _ (i .enters) l (fromServer (historyOf s)) same-side f) e))
         (λ e. record { left = log; step = finishing (compared-finishes log secret m r o z v u _ (compares-differs log m v (same (bodyOf m) v) refl (refusalOf 8) e refl)) })
       where
         same-value : (g : History) → Stands log (whole g) → expectedValue (historyOf s) secret ≡ expectedValue g secret

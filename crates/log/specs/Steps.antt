@@ -13,7 +13,7 @@ use Rattle.refusal.specs.declared.Refusal.{Refusal}
 use Rattle.message.specs.Frame.{kindOf, bodyOf}
 use Rattle.transcript.specs.Choice.{Algorithm, Choice, algorithmBy, algorithmOf}
 use Rattle.transcript.specs.Choice.Choice.{unchosen, chosen}
-use Rattle.transcript.specs.Carries.{Carries, digestOf}
+use Rattle.transcript.specs.Carries.{Carries, choiceNumber, choiceIn, digestOf}
 use Rattle.transcript.specs.Promise.{Enters}
 use Rattle.transcript.specs.declared.Transcript.{Transcript}
 use Rattle.seqs.specs.Flag.{yes}
@@ -75,6 +75,11 @@ pub record PartTurn (log : Log) (rest : List ℕ) (k : ℕ) (tell : Told) (t : T
   pub size : t .refusal .number ≡ 0 → length rest ≤ 65535
   pub request : t .refusal .number ≡ 0 → t .kind ≡ 0 → (s : Standing) → Stands log s → (between s ≡ false) × (kindOf rest ≡ 0) × (length rest ≡ 4)
   pub enters : t .refusal .number ≡ 0 → (t .kind ≡ 0 → ⊥) → (s : Standing) → Stands log s → Entering s rest tell (t .kind) (t .place) (t .sha384)
+
+-- what is carried behind bytes of a message: by a ServerHello that is whole its hash is chosen
+pub record CarriedBehind (log : Log) (k n left r : ℕ) : Type 0 where
+  pub chosen : left ≡ 0 → k ≡ 2 → r ≡ choiceNumber (chosen (algorithmBy (yes n)))
+  pub stays : (left ≡ 0 → k ≡ 2 → ⊥) → r ≡ choiceIn (log .hash)
 
 -- the log that bytes of a message have entered: left of it are still to come, or none and it is accepted; by a ServerHello that is accepted
 -- its hash is chosen, and by a ClientKeyExchange there is a session hash

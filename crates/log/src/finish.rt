@@ -12,7 +12,8 @@ ghost use Prim.Native.Nat.{_≤_};
 ghost use lib.ListN.{length, replicate};
 ghost use Rattle.refusal.specs.Table.{refusalOf};
 ghost use Rattle.log.specs.Order.{finishedDue};
-ghost use Rattle.log.specs.History.{History, placeOf};
+ghost use Rattle.transcript.specs.Choice.Algorithm.{sha-256, sha-384};
+ghost use Rattle.log.specs.History.{History, placeOf, suiteOf};
 ghost use Rattle.log.specs.Standing.{Standing, historyOf, between};
 ghost use Rattle.log.specs.Standing.Standing.{whole};
 ghost use Rattle.log.specs.Finish.{expectedValue};
@@ -32,7 +33,14 @@ impl Log {
         if refusal.number != 0 {
             return Accepted { refusal, log: self };
         }
-        let value = self.expected_value(secret);
+        let mut value = [0u8; 12];
+        if self.hash.is_sha384() {
+            let expected = self.expected384(secret);
+            value = expected;
+        } else {
+            let expected = self.expected256(secret);
+            value = expected;
+        }
         self.compare(message, value)
     }
 
@@ -63,15 +71,10 @@ impl Log {
         let place = order::next(self.place, shape::FINISHED, false);
         let mut worked256 = 0;
         let mut worked384 = 0;
-        self = self.entered(
-            message,
-            shape::FINISHED,
-            place,
-            0,
-            0,
-            &mut worked256,
-            &mut worked384,
-        );
+        let choice = self.hash.choice();
+        self.hash = self.hash
+            .enter(message, choice, &mut worked256, &mut worked384);
+        self.place = place;
         if server {
             self.server = value;
             return self;
@@ -119,21 +122,33 @@ impl Log {
             return unexpected(7);
         }
         let refusal = refuse(0);
-        let value = self.expected_value(secret);
+        if self.hash.is_sha384() {
+            let value = self.expected384(secret);
+            return Expected { refusal, value };
+        }
+        let value = self.expected256(secret);
         Expected { refusal, value }
     }
 
-    fn expected_value(self, secret: &[u8]) -> [u8; 12]
+    // With a suite of SHA-256. Each hash has a function that both calls above ask, so that neither has the other's locals on the stack.
+    fn expected256(self, secret: &[u8]) -> [u8; 12]
         requires { ⌜ length (now secret) ≡ 48 ⌝ }
-        ensures { λ r. ⌜ ((h : History) → Stands self (whole h) → r ≡ expectedValue h (now (secret .entry))) ⌝ }
+        ensures { λ r. ⌜ ((h : History) → Stands self (whole h) → suiteOf h ≡ sha-256 → r ≡ expectedValue h (now (secret .entry))) ⌝ }
     {
         let hash = self.hash;
         let server = order::from_server(self.place);
-        if hash.is_sha384() {
-            let verified = prf::verify_data384(secret, server, hash.digest384());
-            return verified.value;
-        }
         let verified = prf::verify_data(secret, server, hash.digest256());
+        verified.value
+    }
+
+    // With one of SHA-384.
+    fn expected384(self, secret: &[u8]) -> [u8; 12]
+        requires { ⌜ length (now secret) ≡ 48 ⌝ }
+        ensures { λ r. ⌜ ((h : History) → Stands self (whole h) → suiteOf h ≡ sha-384 → r ≡ expectedValue h (now (secret .entry))) ⌝ }
+    {
+        let hash = self.hash;
+        let server = order::from_server(self.place);
+        let verified = prf::verify_data384(secret, server, hash.digest384());
         verified.value
     }
 }

@@ -23,7 +23,7 @@ ghost use Rattle.log.specs.Standing.{Standing, historyOf, between};
 ghost use Rattle.log.specs.Standing.Standing.{whole};
 ghost use Rattle.log.specs.Stands.{Stands};
 ghost use Rattle.log.specs.Promise.{Accepts, Hashes};
-ghost use Rattle.log.specs.Steps.{TurnOf, Entered};
+ghost use Rattle.log.specs.Steps.{TurnOf, CarriedBehind, Entered};
 
 // What is to be done with a message: the refusal, or number 0, its type, the place of `order` that it leads to, and the hash that was told
 // with it: 1 for SHA-384.
@@ -154,8 +154,21 @@ impl Log {
         }
     }
 
+    // What is carried behind bytes of a message: a ServerHello that is whole chooses the hash.
+    fn carried(self, kind: u8, sha384: u8, left: u16) -> u8
+        ensures { λ r. ⌜ CarriedBehind self kind sha384 left r ⌝ }
+    {
+        if left != 0 {
+            return self.hash.choice();
+        }
+        if kind != shape::SERVER_HELLO {
+            return self.hash.choice();
+        }
+        Transcript::told(sha384 != 0)
+    }
+
     // The log that these bytes of a message in turn have entered, and how many blocks they worked: left bytes are still to come, or none,
-    // and the message is accepted. A ServerHello that is whole chooses the hash.
+    // and the message is accepted.
     pub(crate) fn entered(
         mut self,
         bytes: &[u8],
@@ -168,7 +181,8 @@ impl Log {
     ) -> Log
         ensures { λ r. ⌜ Entered self (now (bytes .entry)) kind place sha384 left r (each (now (worked256 .exit)) (now (worked384 .exit))) ⌝ }
     {
-        self.hash = self.hash.enter(bytes, worked256, worked384);
+        let choice = self.carried(kind, sha384, left);
+        self.hash = self.hash.enter(bytes, choice, worked256, worked384);
         self.left = left;
         if left != 0 {
             self.kind = kind;
@@ -180,10 +194,6 @@ impl Log {
         self.next = 0;
         self.sha384 = 0;
         self.place = place;
-        if kind == shape::SERVER_HELLO {
-            self.hash = self.hash.choose(sha384 != 0);
-            return self;
-        }
         if kind == shape::CLIENT_KEY_EXCHANGE {
             let session = digest(self.hash);
             self.session = session;

@@ -25,6 +25,9 @@ pub(crate) struct Keyed {
 // The most bytes of a key, and of a message.
 const MOST: usize = 65536;
 
+// The most bytes of a message whose end `ended_short` lays out: every HMAC of the PRF has so few.
+const SHORT: usize = 119;
+
 // k with zeros after it, to a block.
 fn padded(k: &[u8]) -> [u8; 64]
     requires { ⌜ length (now k) ≤ 64 ⌝ }
@@ -77,8 +80,12 @@ impl Keyed {
         ensures { λ r. ⌜ ((k : List ℕ) → KeyedBy self k → r ≡ hmac SHA256 k (now (a .entry) ++ (now (b .entry) ++ now (c .entry)))) ⌝ }
     {
         let inner = self.inner;
-        let digest = inner.ended(a, b, c);
         let outer = self.outer;
+        if a.len() + (b.len() + c.len()) <= SHORT {
+            let digest = inner.ended_short(a, b, c);
+            return outer.ended_by(digest);
+        }
+        let digest = inner.ended(a, b, c);
         outer.ended_by(digest)
     }
 }

@@ -25,6 +25,9 @@ pub(crate) struct Keyed384 {
 // The most bytes of a key, and of a message.
 const MOST: usize = 65536;
 
+// The most bytes of a message whose end `ended_short` lays out: every HMAC of the PRF has so few.
+const SHORT: usize = 239;
+
 // k with zeros after it, to a block.
 fn padded(k: &[u8]) -> [u8; 128]
     requires { ⌜ length (now k) ≤ 128 ⌝ }
@@ -77,8 +80,12 @@ impl Keyed384 {
         ensures { λ r. ⌜ ((k : List ℕ) → Keyed384By self k → r ≡ hmac SHA384 k (now (a .entry) ++ (now (b .entry) ++ now (c .entry)))) ⌝ }
     {
         let inner = self.inner;
-        let digest = inner.ended(a, b, c);
         let outer = self.outer;
+        if a.len() + (b.len() + c.len()) <= SHORT {
+            let digest = inner.ended_short(a, b, c);
+            return outer.ended_by(digest);
+        }
+        let digest = inner.ended(a, b, c);
         outer.ended_by(digest)
     }
 }

@@ -21,7 +21,7 @@ use Rattle.seqs.proofs.Zeros.{take-zeros}
 use Rattle.seqs.proofs.Taking.{split, room, length-left, rest-of}
 
 -- 'as few zero bits as': z zero bytes that bring the whole to q blocks, fewer than a block, are those of the padding
-zeros-are : (size width n z q : ℕ) → 0 < size → z < size → n + 1 + width + z ≡ size * q → zeros size width n ≡ z
+pub zeros-are : (size width n z q : ℕ) → 0 < size → z < size → n + 1 + width + z ≡ size * q → zeros size width n ≡ z
 zeros-are size width n zero q s h e =
     let a : (n + 1 + width) % size ≡ 0 = ap (λ (i : ℕ). i % size) (sym (add-zero (n + 1 + width)) ∙ e) ∙ mul-mod-right size q in
     ap (λ (i : ℕ). (size - i) % size) a ∙ ap (λ (i : ℕ). i % size) (sub-zero size) ∙ mod-self size
@@ -55,7 +55,7 @@ length-sealed size t at h g = simp (length-append, length-replicate) (omega (ari
 
 module _ {S : Type 0} (size : ℕ) (positive : 0 < size) (step : S → List ℕ → S) (initial : S) where
   -- what follows whole blocks depends on the hash value there and on the rest alone
-  rest-only : (k j : ℕ) (m p : List ℕ) → size * k ≤ length m
+  pub rest-only : (k j : ℕ) (m p : List ℕ) → size * k ≤ length m
       → after size step initial (k + j) (m ++ p) ≡ after size step (after size step initial k m) j (drop (size * k) m ++ p)
   rest-only k j m p h =
       after-from size step initial k j (m ++ p)

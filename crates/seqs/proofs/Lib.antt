@@ -11,3 +11,4 @@ pub mod Ending
 pub mod Rolling
 pub mod Room
 pub mod FirstBlock
+pub mod ByHand

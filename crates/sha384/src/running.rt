@@ -198,10 +198,33 @@ pub fn sha384(message: &[u8]) -> Digested384
             digest: [0; 48],
         };
     }
-    let mut h = Hash384::fresh();
-    let mut worked = 0;
-    h = h.more(message, &mut worked);
-    let digest = h.digest();
+    let digest = whole(message);
     let refusal = refusal::refuse(0);
     Digested384 { refusal, digest }
+}
+
+// The digest of a message that is not too long. No running hash is made: its blocks are compressed where they lie, and what is left of it
+// goes into the last block with the padding, or into the last two.
+fn whole(message: &[u8]) -> [u8; 48]
+    requires { ⌜ length (now message) ≤ most ⌝ }
+    ensures { λ r. ⌜ r ≡ sha384 (now (message .entry)) ⌝ }
+{
+    let n = message.len();
+    let mut state = State384::initial();
+    let mut i = 0;
+    while 128 <= n - i {
+        state = state.compress(message, i);
+        i += 128;
+    }
+    let at = n - i;
+    let mut block = [0u8; 128];
+    fill(&mut block, 0, message, i, at);
+    seal(&mut block, at);
+    if 112 <= at {
+        state = state.compress(&block, 0);
+        block = [0; 128];
+    }
+    put_length(&mut block, n as u64 * 8);
+    state = state.compress(&block, 0);
+    state.output()
 }

@@ -1,21 +1,23 @@
--- More bytes enter each carried hash, and the other one stays fresh.
+-- More bytes enter each carried hash, and the other one stays fresh; and what is carried behind them.
 -- Assumes nothing.
-use mathlib.Core.Path.{_≡_, refl}
-use mathlib.Core.List.{List, _++_}
-use Prim.Native.Nat.{ℕ, _+_, _≤_}
+use mathlib.Core.Path.{_≡_, refl, sym, _∙_}
+use mathlib.Core.List.{List, [], _++_}
+use Prim.Native.Nat.{ℕ, suc, _+_, _≤_}
 use native.Mathlib.Omega.{arith}
 use lib.ListN.{length}
 use Rattle.sha256.specs.Running.{most}
 use Rattle.sha256.specs.Promise as sha256-specs
+use Rattle.sha256.specs.Running as sha256-running
 use Rattle.sha256.specs.declared.running.Hash.{Hash}
 use Rattle.sha384.specs.Promise as sha384-specs
+use Rattle.sha384.specs.Running as sha384-running
 use Rattle.sha384.specs.declared.running.Hash384.{Hash384}
 use Rattle.transcript.specs.Choice.{Algorithm, Choice}
 use Rattle.transcript.specs.Choice.Algorithm.{sha-256, sha-384}
 use Rattle.transcript.specs.Choice.Choice.{unchosen, chosen}
 use Rattle.transcript.specs.Allowance.{blocks}
-use Rattle.transcript.specs.Carries.{choiceNumber, Carries}
-use Rattle.transcript.specs.Promise.{each, Enters}
+use Rattle.transcript.specs.Carries.{choiceNumber, choiceIn, Carries}
+use Rattle.transcript.specs.Promise.{each, Enters, EntersTo}
 use Rattle.transcript.specs.declared.Transcript.{Transcript}
 
 -- a transcript has one number for what is chosen
@@ -94,3 +96,43 @@ module _ (t : Transcript) (b : List ℕ) where
           counts unchosen m p sha-384 = k .counts m (p .sha384)
           counts (chosen sha-256) m p a = absurd (e (p .choice))
           counts (chosen sha-384) m p a = absurd (f (p .choice))
+
+-- what is carried behind bytes that have entered
+module _ (t hash : Transcript) (b : List ℕ) (n : ℕ) (w : Algorithm → ℕ) (x : Enters t b hash w) where
+  on : ((a : Algorithm) (m : List ℕ) → Carries hash unchosen m → n ≡ choiceNumber (chosen a) → ⊥) → EntersTo t b n hash w
+  on none = record { hash = hash; enters = x; stays = λ _. refl; chooses = λ a m p e. absurd (none a m p e) }
+
+  -- as before, since one is chosen already
+  pub goes-on : (i : ℕ) → hash .choice ≡ suc i → EntersTo t b n hash w
+  goes-on i e = on (λ a m p _. omega (arith, e, p .choice))
+
+  -- or since none is told
+  pub untold : (n ≡ 1 → ⊥) → (n ≡ 2 → ⊥) → EntersTo t b n hash w
+  untold e f = on none
+    where
+      none : (a : Algorithm) (m : List ℕ) → Carries hash unchosen m → n ≡ choiceNumber (chosen a) → ⊥
+      none sha-256 m p q = e q
+      none sha-384 m p q = f q
+
+  -- the one that is told, and the other one is given up
+  pub chooses-256 : n ≡ 1 → (t .choice ≡ 1 → ⊥) → (h : Hash384) → sha384-running.Running h []
+      → EntersTo t b n (record { sha256 = hash .sha256; sha384 = h; choice = 1 }) w
+  unfolding choiceIn
+  chooses-256 e z h f =
+      record { hash = hash; enters = x; stays = λ s. absurd (z (sym s ∙ e)); chooses = chooses }
+    where
+      chooses : (a : Algorithm) (m : List ℕ) → Carries hash unchosen m → n ≡ choiceNumber (chosen a)
+          → Carries (record { sha256 = hash .sha256; sha384 = h; choice = 1 }) (chosen a) m
+      chooses sha-256 m p q = record { choice = refl; sha256 = p .sha256; sha384 = f }
+      chooses sha-384 m p q = absurd (omega (arith, e, q))
+
+  pub chooses-384 : n ≡ 2 → (t .choice ≡ 2 → ⊥) → (g : Hash) → sha256-running.Running g []
+      → EntersTo t b n (record { sha256 = g; sha384 = hash .sha384; choice = 2 }) w
+  unfolding choiceIn
+  chooses-384 e z g f =
+      record { hash = hash; enters = x; stays = λ s. absurd (z (sym s ∙ e)); chooses = chooses }
+    where
+      chooses : (a : Algorithm) (m : List ℕ) → Carries hash unchosen m → n ≡ choiceNumber (chosen a)
+          → Carries (record { sha256 = g; sha384 = hash .sha384; choice = 2 }) (chosen a) m
+      chooses sha-256 m p q = absurd (omega (arith, e, q))
+      chooses sha-384 m p q = record { choice = refl; sha256 = f; sha384 = p .sha384 }

@@ -19,6 +19,10 @@ choiceNumber unchosen = 0
 choiceNumber (chosen sha-256) = 1
 choiceNumber (chosen sha-384) = 2
 
+-- and the one that it has
+unfoldable pub choiceIn : Transcript → ℕ
+choiceIn t = t .choice
+
 -- what a hash has taken: m, or nothing where it isn't carried, so that it is the fresh one
 abbrev pub takenBy : Choice → Algorithm → List ℕ → List ℕ
 takenBy c a m = pick (carried c a) m []

@@ -1,6 +1,6 @@
--- Laws: what the parts above may use of an allowance, and do not open it.
+-- Laws: what the parts above may use of an allowance and of bytes that enter, and do not open it.
 -- Assumes nothing.
-use mathlib.Core.Path.{_≡_, refl}
+use mathlib.Core.Path.{_≡_, refl, sym, subst}
 use mathlib.Core.List.{List, _++_}
 use mathlib.Core.Bool.{Bool, true, false}
 use mathlib.Core.Logic.{_⊎_, inl, inr}
@@ -17,6 +17,9 @@ use Rattle.transcript.specs.Choice.{Algorithm, Choice, blockOf, carried}
 use Rattle.transcript.specs.Choice.Algorithm.{sha-256, sha-384}
 use Rattle.transcript.specs.Choice.Choice.{unchosen, chosen}
 use Rattle.transcript.specs.Allowance.{roomOf, room, letIn, blocks, Room256IsSmaller}
+use Rattle.transcript.specs.Carries.{choiceIn}
+use Rattle.transcript.specs.Promise.{Enters, EntersTo}
+use Rattle.transcript.specs.declared.Transcript.{Transcript}
 
 -- SHA-256's room is the smaller one
 pub room-of : (k : ℕ) (m : List ℕ) → roomOf sha-256 k m ≤ roomOf sha-384 k m
@@ -85,3 +88,7 @@ blocks-append c a m b d = go (carried c a)
     go : (t : Bool) → pick t (completed (blockOf a) m b) 0 + pick t (completed (blockOf a) (m ++ b) d) 0 ≡ pick t (completed (blockOf a) m (b ++ d)) 0
     go true = some a
     go false = refl
+
+-- bytes behind which is carried what was
+pub enters-on : {t r : Transcript} {b : List ℕ} {n : ℕ} {worked : Algorithm → ℕ} → EntersTo t b n r worked → n ≡ choiceIn t → Enters t b r worked
+enters-on {t} {r} {b} {n} {worked} x e = subst (λ (h : Transcript). Enters t b h worked) (sym (x .stays e)) (x .enters)

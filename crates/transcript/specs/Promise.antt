@@ -7,8 +7,9 @@ use lib.ListN.{length}
 use Rattle.sha256.specs.Running.{most}
 use Rattle.transcript.specs.Choice.{Algorithm, Choice}
 use Rattle.transcript.specs.Choice.Algorithm.{sha-256, sha-384}
+use Rattle.transcript.specs.Choice.Choice.{unchosen, chosen}
 use Rattle.transcript.specs.Allowance.{blocks}
-use Rattle.transcript.specs.Carries.{Carries}
+use Rattle.transcript.specs.Carries.{Carries, choiceNumber, choiceIn}
 use Rattle.transcript.specs.declared.Transcript.{Transcript}
 
 -- a number for each hash
@@ -20,3 +21,11 @@ each i j sha-384 = j
 pub record Enters (t : Transcript) (bytes : List ℕ) (r : Transcript) (worked : Algorithm → ℕ) : Type 0 where
   pub carries : (c : Choice) (m : List ℕ) → Carries t c m → length m + length bytes ≤ most → Carries r c (m ++ bytes)
   pub counts : (c : Choice) (m : List ℕ) → Carries t c m → (a : Algorithm) → worked a ≡ blocks c a m bytes
+
+-- and behind them the transcript carries what it did, or of both the one that is told
+pub record EntersTo (t : Transcript) (bytes : List ℕ) (choice : ℕ) (r : Transcript) (worked : Algorithm → ℕ) : Type 0 where
+  -- the hashes that the bytes have entered
+  pub hash : Transcript
+  pub enters : Enters t bytes hash worked
+  pub stays : choice ≡ choiceIn t → r ≡ hash
+  pub chooses : (a : Algorithm) (m : List ℕ) → Carries hash unchosen m → choice ≡ choiceNumber (chosen a) → Carries r (chosen a) m

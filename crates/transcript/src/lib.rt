@@ -9,8 +9,8 @@ ghost use Rattle.transcript.specs.Choice.{Choice, algorithmBy, algorithm
 ghost use Rattle.transcript.specs.Choice.Algorithm.{sha-256, sha-384};
 ghost use Rattle.transcript.specs.Choice.Choice.{unchosen, chosen};
 ghost use Rattle.transcript.specs.Allowance.{smaller, letIn};
-ghost use Rattle.transcript.specs.Carries.{Carries};
-ghost use Rattle.transcript.specs.Promise.{Enters, each};
+ghost use Rattle.transcript.specs.Carries.{Carries, choiceNumber, choiceIn};
+ghost use Rattle.transcript.specs.Promise.{EntersTo, each};
 use sha256::Hash;
 use sha384::Hash384;
 
@@ -43,18 +43,18 @@ impl Transcript {
         }
     }
 
-    // From here on only this one is carried.
-    pub fn choose(mut self, sha384: bool) -> Transcript
-        ensures { λ r. ⌜ ((m : List ℕ) → Carries self unchosen m → Carries r (chosen (algorithmBy sha384)) m) ⌝ }
+    // What is carried, as a number.
+    pub fn choice(self) -> u8
+        ensures { λ r. ⌜ r ≡ choiceIn self ⌝ }
     {
-        if sha384 {
-            self.sha256 = Hash::fresh();
-            self.choice = SHA384;
-            return self;
-        }
-        self.sha384 = Hash384::fresh();
-        self.choice = SHA256;
-        self
+        self.choice
+    }
+
+    // The number of a hash that is told.
+    pub fn told(sha384: bool) -> u8
+        ensures { λ r. ⌜ r ≡ choiceNumber (chosen (algorithmBy sha384)) ⌝ }
+    {
+        if sha384 { SHA384 } else { SHA256 }
     }
 
     // Is SHA-384 chosen?
@@ -75,9 +75,16 @@ impl Transcript {
         least(64 * blocks - 1 - self.sha256.waiting(), left)
     }
 
-    // More bytes, for a caller that knows that there is room, and how many blocks of each hash were worked.
-    pub fn enter(mut self, bytes: &[u8], worked256: &mut usize, worked384: &mut usize) -> Transcript
-        ensures { λ r. ⌜ Enters self (now (bytes .entry)) r (each (now (worked256 .exit)) (now (worked384 .exit))) ⌝ }
+    // More bytes, for a caller that knows that there is room, and how many blocks of each hash were worked. Behind them choice says what is
+    // carried: what was, or of both the one that is told, and the other one is given up.
+    pub fn enter(
+        mut self,
+        bytes: &[u8],
+        choice: u8,
+        worked256: &mut usize,
+        worked384: &mut usize,
+    ) -> Transcript
+        ensures { λ r. ⌜ EntersTo self (now (bytes .entry)) choice r (each (now (worked256 .exit)) (now (worked384 .exit))) ⌝ }
     {
         if self.choice == SHA384 {
             *worked256 = 0;
@@ -90,6 +97,15 @@ impl Transcript {
             return self;
         }
         self.sha384 = self.sha384.more(bytes, worked384);
+        if choice == SHA384 {
+            self.sha256 = Hash::fresh();
+            self.choice = SHA384;
+            return self;
+        }
+        if choice == SHA256 {
+            self.sha384 = Hash384::fresh();
+            self.choice = SHA256;
+        }
         self
     }
 

@@ -1,7 +1,6 @@
 -- The hash of a whole message, or the refusal.
 -- Assumes nothing.
 use mathlib.Core.Path.{sym, _∙_, ap}
-use mathlib.Core.List.{[]}
 use Prim.Native.Nat.{_≤_}
 use native.Mathlib.Omega.{arith}
 use lib.ListN.{length}
@@ -21,33 +20,19 @@ returns c =
     let m = c .before .before .before .args .message .now in
     undigested m (c .refuse .result) (c .refuse .ensures ∙ ap refusalOf (sym (number-over 0 (length m) (omega arith)))) (omega arith)
 
-fresh-requires : tie.Need-fresh-requires
-fresh-requires c κs = search needs
-
-more-requires : tie.Need-more-requires
-more-requires c κs = search needs
-
-digest-requires : tie.Need-digest-requires
-digest-requires c κs = search needs
+whole-requires : tie.Need-whole-requires
+whole-requires c κs = omega arith
 
 refuse-requires-2 : tie.Need-refuse-requires-2
 refuse-requires-2 c κs = search needs
 
 returns-2 : tie.Need-returns-2
 returns-2 c =
-    let m = c .before .before .before .before .before .before .before .args .message .now in
+    let m = c .before .before .before .before .args .message .now in
     let w : length m ≤ most = omega arith in
-    digested m (c .refuse2 .result) (c .refuse2 .ensures ∙ ap refusalOf (sym (number-within 0 (length m) (omega arith)))) (c .before .digest .result) w
-    (c .before .digest .ensures m (c .before .before .more .ensures .runs [] (c .before .before .before .before .fresh .ensures) (omega arith)))
+    digested m (c .refuse2 .result) (c .refuse2 .ensures ∙ ap refusalOf (sym (number-within 0 (length m) (omega arith)))) (c .before .whole .result) w (c .before .whole .ensures)
 
 pub sha384-spec : {M : Type 1} → statement M
 sha384-spec =
     tie.close
-    (tie.spec
-    refuse-requires
-    returns
-    fresh-requires
-    more-requires
-    digest-requires
-    refuse-requires-2
-    returns-2)
+    (tie.spec refuse-requires returns whole-requires refuse-requires-2 returns-2)

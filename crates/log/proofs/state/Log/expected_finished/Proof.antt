@@ -1,5 +1,8 @@
--- The two refusals, and what is expected.
+-- The two refusals, and what is expected, by the suite's hash.
 -- Assumes nothing.
+use mathlib.Core.Path.{_∙_, ap}
+use Rattle.transcript.specs.Choice.{algorithmBy}
+use Rattle.log.specs.History.{hashed, choiceOf}
 use Rattle.log.proofs.Finishing.{secret-expects, due-expects, done-expects}
 use borrow.Author.Needs.{needs}
 use Rattle.log.proofs.state.Log.expected_finished.Statement.{statement}
@@ -23,11 +26,28 @@ returns-2 c = due-expects _ _ (c .before .before .before .if1 .left) _ (c .befor
 refuse-requires : tie.Need-refuse-requires
 refuse-requires c κs = search needs
 
-expected-value-requires : tie.Need-expected-value-requires
-expected-value-requires c κs = search needs
+is-sha384-requires : tie.Need-is-sha384-requires
+is-sha384-requires c κs = search needs
+
+expected384-requires : tie.Need-expected384-requires
+expected384-requires c κs = search needs
 
 returns-3 : tie.Need-returns-3
-returns-3 c = done-expects _ _ (c .before .before .before .before .if1 .left) _ (c .before .before .before .due .ensures) _ _ (c .before .before .if2 .left) (c .before .refuse .ensures) (c .expected-value .ensures)
+returns-3 c =
+    let i = c .before .before in
+    let d = i .before .before .before in
+    done-expects _ _ (d .before .if1 .left) _ (d .due .ensures) _ _ (i .before .before .if2 .left) (i .before .refuse .ensures)
+    (λ h s. c .expected384 .ensures h s (i .is-sha384 .ensures (choiceOf h) (hashed h) (s .hash) ∙ ap algorithmBy (c .before .if3 .taken)))
+
+expected256-requires : tie.Need-expected256-requires
+expected256-requires c κs = search needs
+
+returns-4 : tie.Need-returns-4
+returns-4 c =
+    let i = c .before .before in
+    let d = i .before .before .before in
+    done-expects _ _ (d .before .if1 .left) _ (d .due .ensures) _ _ (i .before .before .if2 .left) (i .before .refuse .ensures)
+    (λ h s. c .expected256 .ensures h s (i .is-sha384 .ensures (choiceOf h) (hashed h) (s .hash) ∙ ap algorithmBy (c .before .if3 .left)))
 
 pub expected-finished-spec : {M : Type 1} → statement M
 expected-finished-spec =
@@ -39,5 +59,8 @@ expected-finished-spec =
     unexpected-requires-2
     returns-2
     refuse-requires
-    expected-value-requires
-    returns-3)
+    is-sha384-requires
+    expected384-requires
+    returns-3
+    expected256-requires
+    returns-4)
