@@ -10,9 +10,9 @@ use borrow.Author.Tests.{eq-eqb, ne-eqb, eqb-true, eqb-false}
 use Rattle.seqs.specs.Pick.{pick}
 use Rattle.seqs.specs.Cases.{by-test}
 use Rattle.refusal.specs.Table.{placed}
-use Rattle.listing.specs.Digits.{ascii, decimal}
+use Rattle.cases.specs.Digits.{ascii, decimal}
 use Rattle.listing.specs.Texts.{answered}
-use Rattle.listing.proofs.Decimals.{one-long, one-least, three-most}
+use Rattle.cases.proofs.Decimals.{one-long, one-least, three-most}
 
 module _ (n p : ℕ) where
   pub with-place : 1 ≤ n → n ≤ 2 → answered n p ≡ decimal n ++ ((58 ∷ []) ++ decimal p)

@@ -14,12 +14,12 @@ use Rattle.message.specs.Numbers.{byteAt}
 use Rattle.message.specs.Frame.{kindOf}
 use Rattle.log.specs.Standing.{Standing}
 use Rattle.log.specs.Calls.{brokenAt}
-use Rattle.listing.specs.Digits.{ascii}
+use Rattle.cases.specs.Digits.{ascii}
 use Rattle.listing.specs.Texts.{columnOf, printed}
 use Rattle.listing.specs.Listing.{kindColumn, decisionRefusal, answerOf, helloColumn, logNumber, logRefusal, lineFor}
 use Rattle.listing.specs.declared.line.Column.{Column}
 use Rattle.listing.specs.declared.line.Column.the-variants.{Nothing, Number, Answer}
-use Rattle.listing.proofs.Decimals.{one-long, three-most}
+use Rattle.cases.proofs.Decimals.{one-long, three-most}
 use Rattle.listing.proofs.Answers.{bare}
 
 pub kind-none : (m : List ℕ) → length m ≡ 0 → kindColumn m ≡ Nothing

@@ -18,8 +18,8 @@ use Rattle.log.specs.Order.{turns, isDue, finishedDue}
 use Rattle.log.specs.History.{placeOf}
 use Rattle.log.specs.Calls.{wrongBody, misshapen, outOfTurn, isFinished, acceptNumber, afterAccept}
 use Rattle.log.specs.Finish.{finishNumber}
-use Rattle.listing.specs.Contents.{countOf, lengthsIn, lengthsOf, contentsSize, partsOf, bodiesOf, total, goodCase}
-use Rattle.listing.specs.Digits.{ascii, digits, decimal}
+use Rattle.cases.specs.Contents.{countOf, lengthsIn, lengthsOf, contentsSize, partsOf, bodiesOf, total, goodCase}
+use Rattle.cases.specs.Digits.{ascii, digits, decimal}
 use Rattle.listing.specs.Texts.{header, refused, answered, columnOf, printed}
 use Rattle.listing.specs.Listing.{kindColumn, decisionOn, decisionRefusal, helloColumn, logNumber, logRefusal, logAfter, lineFor, lines, listing}
 

@@ -8,13 +8,13 @@ use Rattle.log.specs.Standing.{Standing}
 use Rattle.log.specs.Standing.Standing.{whole}
 use Rattle.log.specs.Stands.{Stands}
 use Rattle.log.specs.declared.state.Log.{Log}
-use Rattle.listing.specs.Contents.{countOf, contentsSize, bodiesOf}
+use Rattle.cases.specs.Contents.{countOf, contentsSize, bodiesOf}
 use Rattle.listing.specs.Texts.{header, lineOf, textOf}
 use Rattle.listing.specs.Listing.{lines, logAfter}
 use Rattle.listing.specs.Steps.{Feeds}
 use Rattle.listing.specs.declared.feed.Fed.{Fed}
 use Rattle.listing.specs.declared.text.Text.{Text}
-use Rattle.listing.proofs.Bodies.{sizeAt, bodyAt, bodiesFrom, bodies-all, bodies-more, bodies-end}
+use Rattle.cases.proofs.Bodies.{sizeAt, bodyAt, bodiesFrom, bodies-all, bodies-more, bodies-end}
 
 -- i messages are done, and the next one begins at `at`
 pub record Going (case : List ℕ) (i at : ℕ) (text : Text) (log : Log) : Type 0 where

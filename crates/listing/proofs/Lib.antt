@@ -1,6 +1,3 @@
-pub mod Bodies
-pub mod Cases
-pub mod Decimals
 pub mod Answers
 pub mod Adding
 pub mod Columns

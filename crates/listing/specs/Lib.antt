@@ -1,5 +1,3 @@
-pub mod Contents
-pub mod Digits
 pub mod Texts
 pub mod Listing
 pub mod Steps

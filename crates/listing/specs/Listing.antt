@@ -22,7 +22,7 @@ use Rattle.decision.specs.Connection.{freshConnection}
 use Rattle.decision.specs.Server.{sessionIn, serverDecision}
 use Rattle.decision.specs.declared.connection.Switches.{Switches}
 use Rattle.decision.specs.declared.connection.Decision.{Decision}
-use Rattle.listing.specs.Contents.{goodCase, bodiesOf}
+use Rattle.cases.specs.Contents.{goodCase, bodiesOf}
 use Rattle.listing.specs.Texts.{header, refused, printed}
 use Rattle.listing.specs.declared.line.Column.{Column}
 use Rattle.listing.specs.declared.line.Column.the-variants.{Nothing, Number, Answer}

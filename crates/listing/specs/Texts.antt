@@ -6,7 +6,7 @@ use Prim.Native.Nat.{ℕ, _+_, _-_}
 use lib.ListN.{length, take, replicate}
 use Rattle.seqs.specs.Pick.{pick}
 use Rattle.refusal.specs.Table.{placed}
-use Rattle.listing.specs.Digits.{ascii, decimal}
+use Rattle.cases.specs.Digits.{ascii, decimal}
 use Rattle.listing.specs.declared.line.Column.{Column}
 use Rattle.listing.specs.declared.line.Column.the-variants.{Nothing, Number, Answer}
 use Rattle.listing.specs.declared.line.Line.{Line}

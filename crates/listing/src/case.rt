@@ -1,5 +1,5 @@
 // The whole text of a case.
-use crate::contents::is_good;
+use cases::is_good;
 use crate::feed::feed;
 use crate::text::Text;
 use log::Log;
@@ -11,7 +11,7 @@ ghost use mathlib.Core.List.{_++_};
 ghost use Prim.Native.Nat.{_≤_};
 ghost use Rattle.log.specs.History.History.{fresh};
 ghost use Rattle.log.specs.Standing.Standing.{whole};
-ghost use Rattle.listing.specs.Contents.{goodCase, bodiesOf};
+ghost use Rattle.cases.specs.Contents.{goodCase, bodiesOf};
 ghost use Rattle.listing.specs.Texts.{header, textOf};
 ghost use Rattle.listing.specs.Listing.{lines, listing};
 

@@ -13,7 +13,7 @@ use sessions::Table;
 ghost use mathlib.Core.Path.{_≡_};
 ghost use Prim.Native.Nat.{_+_, _≤_, _<_};
 ghost use lib.ListN.{length};
-ghost use Rattle.listing.specs.Digits.{decimal};
+ghost use Rattle.cases.specs.Digits.{decimal};
 ghost use Rattle.listing.specs.Texts.{columnOf};
 ghost use Rattle.listing.specs.Listing.{kindColumn, decisionRefusal, answerOf, helloColumn};
 ghost use Rattle.listing.specs.Steps.{Takes, Feeds};

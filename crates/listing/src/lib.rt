@@ -1,6 +1,5 @@
 // What the program `loglist` prints: a line for each message of a case.
 mod case;
-mod contents;
 mod feed;
 mod line;
 mod text;

@@ -3,7 +3,7 @@ ghost use mathlib.Core.Path.{_≡_};
 ghost use mathlib.Core.List.{[], _∷_};
 ghost use Prim.Native.Nat.{_+_, _≤_, _<_};
 ghost use lib.ListN.{length};
-ghost use Rattle.listing.specs.Digits.{decimal};
+ghost use Rattle.cases.specs.Digits.{decimal};
 ghost use Rattle.listing.specs.Texts.{answered, columnOf, printed, lineOf, Adds};
 
 pub(crate) struct Line {

@@ -2,7 +2,7 @@
 -- Assumes nothing.
 use mathlib.Core.List.{[]}
 use native.Mathlib.Omega.{arith}
-use Rattle.listing.specs.Digits.{ascii}
+use Rattle.cases.specs.Digits.{ascii}
 use Rattle.listing.specs.Texts.{header}
 use Rattle.listing.proofs.Zeros.{length-of}
 use borrow.Author.Needs.{needs}

@@ -4,11 +4,11 @@ use mathlib.Core.Path.{_≡_}
 use Prim.Native.Nat.{_+_, _*_, _-_, _≤_, _<_}
 use lib.ListN.{length}
 use Rattle.message.specs.Numbers.{pairAt}
-use Rattle.listing.specs.Contents.{contentsSize, countOf}
-use Rattle.listing.specs.Digits.{ascii}
+use Rattle.cases.specs.Contents.{contentsSize, countOf}
+use Rattle.cases.specs.Digits.{ascii}
 use Rattle.listing.specs.Texts.{header}
-use Rattle.listing.proofs.Bodies.{left, left-more, left-all}
-use Rattle.listing.proofs.Cases.{good-learnt}
+use Rattle.cases.proofs.Bodies.{left, left-more, left-all}
+use Rattle.cases.proofs.Cases.{good-learnt}
 use Rattle.listing.proofs.Going.{Going, going-none, going-more, going-all}
 use Rattle.listing.proofs.Zeros.{length-of}
 use native.Mathlib.Omega.{arith}

@@ -3,8 +3,8 @@
 use mathlib.Core.Path.{_≡_, sym, _∙_}
 use mathlib.Core.Bool.{true, false}
 use native.Mathlib.Omega.{arith}
-use Rattle.listing.specs.Contents.{goodCase}
-use Rattle.listing.specs.Digits.{ascii}
+use Rattle.cases.specs.Contents.{goodCase}
+use Rattle.cases.specs.Digits.{ascii}
 use Rattle.listing.specs.Texts.{header, refused}
 use Rattle.listing.specs.Listing.{listing}
 use Rattle.listing.proofs.Zeros.{length-of}

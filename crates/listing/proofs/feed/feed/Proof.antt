@@ -2,7 +2,7 @@
 -- Assumes nothing.
 use native.Mathlib.Omega.{arith}
 use Rattle.listing.proofs.Columns.{columns-most, line-by}
-use Rattle.listing.proofs.Decimals.{one-long}
+use Rattle.cases.proofs.Decimals.{one-long}
 use borrow.Author.Needs.{needs}
 use Rattle.listing.proofs.feed.feed.Statement.{statement}
 use Rattle.listing.proofs.feed.feed.Tie as tie

@@ -5,7 +5,7 @@ use native.Mathlib.Omega.{arith}
 use Rattle.message.specs.Frame.{kindOf}
 use Rattle.listing.specs.Listing.{answerOf}
 use Rattle.listing.proofs.Columns.{hello-refused, hello-other, hello-decided, dash-most}
-use Rattle.listing.proofs.Decimals.{five-most}
+use Rattle.cases.proofs.Decimals.{five-most}
 use Rattle.listing.proofs.Placing.{decision-place}
 use borrow.Author.Needs.{needs}
 use Rattle.listing.proofs.feed.hello.Statement.{statement}

@@ -3,7 +3,7 @@
 use mathlib.Core.Path.{ap}
 use lib.ListN.{length}
 use native.Mathlib.Omega.{arith}
-use Rattle.listing.specs.Digits.{ascii}
+use Rattle.cases.specs.Digits.{ascii}
 use Rattle.listing.specs.Texts.{columnOf}
 use Rattle.listing.specs.declared.line.Column.{Column}
 use borrow.Author.Needs.{needs}

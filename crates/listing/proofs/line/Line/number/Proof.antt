@@ -3,7 +3,7 @@
 use native.Mathlib.Omega.{arith}
 use borrow.Author.Needs.{needs}
 use Rattle.listing.proofs.Adding.{adds-both}
-use Rattle.listing.proofs.Decimals.{more-digits, more-long}
+use Rattle.cases.proofs.Decimals.{more-digits, more-long}
 use Rattle.listing.proofs.line.Line.number.Statement.{statement}
 use Rattle.listing.proofs.line.Line.number.Tie as tie
 

@@ -1,7 +1,7 @@
 -- At most three digits.
 -- Assumes nothing.
 use native.Mathlib.Omega.{arith}
-use Rattle.listing.proofs.Decimals.{three-most}
+use Rattle.cases.proofs.Decimals.{three-most}
 use borrow.Author.Needs.{needs}
 use Rattle.listing.proofs.line.Line.numbered.Statement.{statement}
 use Rattle.listing.proofs.line.Line.numbered.Tie as tie

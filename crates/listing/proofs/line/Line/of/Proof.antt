@@ -1,7 +1,7 @@
 -- The columns from the left.
 -- Assumes nothing.
 use native.Mathlib.Omega.{arith}
-use Rattle.listing.specs.Digits.{ascii}
+use Rattle.cases.specs.Digits.{ascii}
 use Rattle.listing.specs.Texts.{printed}
 use borrow.Author.Needs.{needs}
 use Rattle.listing.proofs.line.Line.of.Statement.{statement}

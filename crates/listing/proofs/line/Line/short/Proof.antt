@@ -2,7 +2,7 @@
 -- Assumes nothing.
 use native.Mathlib.Omega.{arith}
 use Rattle.listing.proofs.Adding.{adds-both}
-use Rattle.listing.proofs.Decimals.{one-digit, two-digits, three-digits, one-long, two-long, three-long}
+use Rattle.cases.proofs.Decimals.{one-digit, two-digits, three-digits, one-long, two-long, three-long}
 use Rattle.listing.proofs.line.Line.short.Statement.{statement}
 use Rattle.listing.proofs.line.Line.short.Tie as tie
 

@@ -9,7 +9,7 @@ use lib.ListN.{length, length-append}
 use borrow.Author.Tests.{lt-ltb, le-ltb}
 use Rattle.seqs.specs.Pick.{pick}
 use Rattle.seqs.specs.Cases.{by-test}
-use Rattle.listing.specs.Digits.{decimal, digits}
+use Rattle.cases.specs.Digits.{decimal, digits}
 
 -- three bytes, one after the other
 three-bytes : (s : List ℕ) (a b d : ℕ) → s ++ (a ∷ []) ++ (b ∷ []) ++ (d ∷ []) ≡ s ++ (a ∷ b ∷ d ∷ [])

@@ -2,12 +2,12 @@
 use message::byte;
 use message::pair;
 ghost use mathlib.Core.Path.{_≡_};
-ghost use Rattle.listing.specs.Contents.{goodCase};
+ghost use Rattle.cases.specs.Contents.{goodCase};
 
 const LONGEST: usize = 32768;
 
 // Do the contents and the bodies fill the case exactly? It is judged whole, before any body is used.
-pub(crate) fn is_good(case: &[u8]) -> bool
+pub fn is_good(case: &[u8]) -> bool
     ensures { λ r. ⌜ r ≡ goodCase (now (case .entry)) ⌝ }
 {
     if LONGEST < case.len() {

@@ -7,7 +7,7 @@ use native.Mathlib.Omega.{arith}
 use lib.ListN.{take, drop, getD}
 use lib.Seq.{drop-drop, getD-drop}
 use Rattle.message.specs.Numbers.{byteAt, pairAt}
-use Rattle.listing.specs.Contents.{countOf, lengthsIn, lengthsOf, contentsSize, partsOf, bodiesOf, total}
+use Rattle.cases.specs.Contents.{countOf, lengthsIn, lengthsOf, contentsSize, partsOf, bodiesOf, total}
 
 -- the lengths of the bodies from place i on
 lengthsFrom : List ℕ → ℕ → List ℕ

@@ -4,13 +4,13 @@ use mathlib.Core.Path.{_≡_, refl, sym, _∙_, ap}
 use Prim.Native.Nat.{ℕ, _+_, _-_, _*_, _≤_}
 use lib.Dec.{eqb}
 use lib.ListN.{length}
-use Rattle.listing.specs.Contents.{contentsSize, countOf, lengthsOf, total}
-use Rattle.listing.proofs.Bodies.{left, left-more, left-end, left-all}
-use Rattle.listing.proofs.Cases.{bad-long, bad-short, good-exact}
+use Rattle.cases.specs.Contents.{contentsSize, countOf, lengthsOf, total}
+use Rattle.cases.proofs.Bodies.{left, left-more, left-end, left-all}
+use Rattle.cases.proofs.Cases.{bad-long, bad-short, good-exact}
 use native.Mathlib.Omega.{arith}
 use borrow.Author.Needs.{needs}
-use Rattle.listing.proofs.contents.is_good.Statement.{statement}
-use Rattle.listing.proofs.contents.is_good.Tie as tie
+use Rattle.cases.proofs.contents.is_good.Statement.{statement}
+use Rattle.cases.proofs.contents.is_good.Tie as tie
 
 abbrev Inv-loop : tie.InvT-loop
 Inv-loop case count size end₀ i₀ end i =
