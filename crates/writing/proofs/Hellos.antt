@@ -12,8 +12,9 @@ use Rattle.hello.specs.Fields.{Hello, wrongClientVersion, wrongServerVersion}
 use Rattle.hello.specs.Written.{twoBytes}
 use Rattle.writing.specs.Messages.{threeBytes, messageOf, vector8, vector16, openingBytes, closingBytes, clientBytes, serverBytes}
 use Rattle.writing.specs.Promise.{openingOutside, clientOutside, serverOutside, clientOf, serverOf}
-use Rattle.writing.specs.Steps.{placed, opensOutside, listsOutside}
-use Rattle.writing.proofs.Placing.{placed-more, placed-front}
+use Rattle.octets.specs.Placed.{placed}
+use Rattle.writing.specs.Steps.{opensOutside, listsOutside}
+use Rattle.octets.proofs.Placing.{placed-more, placed-front}
 use Rattle.writing.proofs.Sizing.{opens-bound, offers-bound}
 use Rattle.writing.proofs.Writers.{Counts, closing-long}
 

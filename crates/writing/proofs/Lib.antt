@@ -1,4 +1,3 @@
-pub mod Placing
 pub mod Walking
 pub mod Listed
 pub mod Sizing

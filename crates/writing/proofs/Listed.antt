@@ -10,8 +10,8 @@ use Rattle.hello.specs.Extensions.{Extension}
 use Rattle.hello.specs.Written.{twoBytes, writtenList}
 use Rattle.writing.specs.Lists.{total, extensionsFrom}
 use Rattle.writing.specs.Messages.{threeBytes, vector16}
-use Rattle.writing.specs.Steps.{placed}
-use Rattle.writing.proofs.Placing.{placed-then}
+use Rattle.octets.specs.Placed.{placed}
+use Rattle.octets.proofs.Placing.{placed-then}
 
 -- the header of a message of less than 65,536 bytes
 pub three-small : (n : ℕ) → n < 65536 → threeBytes n ≡ 0 ∷ twoBytes n

@@ -8,10 +8,6 @@ use lib.ListN.{length, take, drop}
 use Rattle.seqs.specs.Pick.{pick}
 use Rattle.refusal.specs.First.{firstOf}
 
--- the buffer d with the bytes s from place at on
-unfoldable pub placed : List ℕ → ℕ → List ℕ → List ℕ
-placed d at s = take at d ++ s ++ drop (at + length s) d
-
 -- t is among the types
 unfoldable pub among : ℕ → List ℕ → Bool
 among t [] = false

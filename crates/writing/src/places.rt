@@ -9,7 +9,8 @@ ghost use Rattle.seqs.specs.Pick.{pick};
 ghost use Rattle.hello.specs.Written.{twoBytes, writtenList, writtenBlock};
 ghost use Rattle.writing.specs.Lists.{fitting, extensionsFrom};
 ghost use Rattle.writing.specs.Messages.{threeBytes, vector8, vector16};
-ghost use Rattle.writing.specs.Steps.{placed, blockSize};
+ghost use Rattle.octets.specs.Placed.{placed};
+ghost use Rattle.writing.specs.Steps.{blockSize};
 
 fn put(out: &mut [u8], at: usize, bytes: &[u8]) -> usize
     requires { ⌜ at + length (now bytes) ≤ length (now out) ⌝ }

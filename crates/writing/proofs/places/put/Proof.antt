@@ -1,7 +1,7 @@
 -- Bytes put to their place by the one function that copies.
 -- Assumes nothing.
 use mathlib.Core.Path.{refl}
-use Rattle.writing.proofs.Placing.{placed-put}
+use Rattle.octets.proofs.Placing.{placed-put}
 use native.Mathlib.Omega.{arith}
 use borrow.Author.Needs.{needs}
 use Rattle.writing.proofs.places.put.Statement.{statement}

@@ -5,7 +5,7 @@ use Prim.Native.Nat.{_+_, _*_, _≤_, _<_}
 use lib.ListN.{length}
 use Rattle.hello.specs.Written.{twoBytes, writtenList, writtenBlock}
 use Rattle.writing.specs.Lists.{extensionsFrom}
-use Rattle.writing.proofs.Placing.{placed-more, placed-nothing}
+use Rattle.octets.proofs.Placing.{placed-more, placed-nothing}
 use Rattle.writing.proofs.Walking.{fitting-counts, fitting-sums}
 use Rattle.writing.proofs.Listed.{written-long}
 use native.Mathlib.Omega.{arith}

@@ -1,7 +1,7 @@
 -- One byte put to its place.
 -- Assumes nothing.
 use mathlib.Core.Path.{refl}
-use Rattle.writing.proofs.Placing.{placed-one}
+use Rattle.octets.proofs.Placing.{placed-one}
 use native.Mathlib.Omega.{arith}
 use borrow.Author.Needs.{needs}
 use Rattle.writing.proofs.places.put_byte.Statement.{statement}

@@ -8,8 +8,8 @@ use lib.ListN.{length, take, drop, getD}
 use Rattle.hello.specs.Written.{twoBytes, writtenList}
 use Rattle.writing.specs.Lists.{total, extensionsFrom}
 use Rattle.writing.specs.Messages.{vector16}
-use Rattle.writing.specs.Steps.{placed}
-use Rattle.writing.proofs.Placing.{placed-nothing, length-placed}
+use Rattle.octets.specs.Placed.{placed}
+use Rattle.octets.proofs.Placing.{placed-nothing, length-placed}
 use Rattle.writing.proofs.Walking.{total-step, fitting-counts, fitting-sums, from-step, from-end, taken-long}
 use Rattle.writing.proofs.Listed.{placed-extension}
 use native.Mathlib.Omega.{arith}

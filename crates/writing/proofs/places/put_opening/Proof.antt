@@ -6,8 +6,8 @@ use Prim.Native.Nat.{ℕ, _-_}
 use lib.ListN.{length-append}
 use Rattle.hello.specs.Written.{twoBytes}
 use Rattle.writing.specs.Messages.{vector8}
-use Rattle.writing.specs.Steps.{placed}
-use Rattle.writing.proofs.Placing.{placed-more}
+use Rattle.octets.specs.Placed.{placed}
+use Rattle.octets.proofs.Placing.{placed-more}
 use Rattle.writing.proofs.Listed.{three-small}
 use native.Mathlib.Omega.{arith}
 use borrow.Author.Needs.{needs}

@@ -3,7 +3,7 @@
 use mathlib.Core.Path.{refl}
 use Prim.Native.Nat.{_/_}
 use lib.Seq.{lt-length-set}
-use Rattle.writing.proofs.Placing.{placed-two}
+use Rattle.octets.proofs.Placing.{placed-two}
 use native.Mathlib.Omega.{arith}
 use borrow.Author.Needs.{needs}
 use Rattle.writing.proofs.places.put_pair.Statement.{statement}

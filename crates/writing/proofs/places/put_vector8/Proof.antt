@@ -2,7 +2,7 @@
 -- Assumes nothing.
 use mathlib.Core.List.{[], _∷_}
 use lib.ListN.{length}
-use Rattle.writing.proofs.Placing.{placed-more}
+use Rattle.octets.proofs.Placing.{placed-more}
 use native.Mathlib.Omega.{arith}
 use borrow.Author.Needs.{needs}
 use Rattle.writing.proofs.places.put_vector8.Statement.{statement}

@@ -9,9 +9,9 @@ use native.Mathlib.Omega.{arith}
 use lib.ListN.{length, take, drop, set, length-append, length-drop}
 use lib.Seq.{take-at, drop-at, drop-drop, length-take-le, take-length, set-split, sets-eq, append-snoc, paste-zero}
 use borrow.Rule.Slice.PartMut.{midOf, putMid}
 use Rattle.octets.specs.Put.{putList}
 use Rattle.octets.proofs.Places.{put-at}
-use Rattle.writing.specs.Steps.{placed}
+use Rattle.octets.specs.Placed.{placed}
 
 module _ (d : List ℕ) (at : ℕ) where
   pub placed-nothing : placed d at [] ≡ d
