@@ -101,6 +101,8 @@ server-fields m h f e q =
       version = ap (λ (x : ServerHello). x .version) q;
       random = rw (q, p .is) (record { within = omega (arith, g .whole); is = refl });
       identifier = rw (q, p .is) (points-at m 39 (g .i) (omega (arith, g .whole)));
+      suites = rw (q, p .is, l) (record { within = omega (arith, g .whole); is = refl });
+      methods = rw (q, p .is, l) (record { within = omega (arith, g .whole); is = refl });
       suite = ap (λ (x : ServerHello). x .suite) q;
       compression = ap (λ (x : ServerHello). x .compression) q;
       extensions = rw (q, p .is, l) (extensions-learnt m (p .b) (listPlace (p .b) (39 + g .i + 3)) (p .list) (p .formed));

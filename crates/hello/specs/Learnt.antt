@@ -6,7 +6,7 @@ use mathlib.Core.Path.{_≡_}
 use mathlib.Core.Bool.{Bool, false}
 use mathlib.Core.List.{List}
 use mathlib.Core.Option.{none, some}
-use Prim.Native.Nat.{ℕ, _%_, _≤_}
+use Prim.Native.Nat.{ℕ, _+_, _%_, _≤_}
 use lib.ListN.{length}
 use Rattle.seqs.specs.Flag.{bit}
 use Rattle.hello.specs.Layout.{parsed, big}
@@ -77,7 +77,10 @@ pub record ServerLearnt (m : List ℕ) (h : ServerHello) : Type 0 where
   pub version : h .version ≡ hello .version
   pub random : Points m (h .random) (hello .random)
   pub identifier : Points m (h .identifier) (hello .identifier)
-  -- the suite and the compression method are handed over as numbers
+  -- where the suite stands, behind the identifier, and the compression method, behind the suite
+  pub suites : Points m (part (behind (h .identifier)) 2) (hello .suites)
+  pub methods : Points m (part (behind (h .identifier) + 2) 1) (hello .methods)
+  -- both are handed over as numbers
   pub suite : h .suite ≡ big (hello .suites)
   pub compression : h .compression ≡ big (hello .methods)
   pub extensions : ExtensionsLearnt m (h .extensions) (hello .block) (hello .extensions)
