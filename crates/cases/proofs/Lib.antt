@@ -1,3 +1,4 @@
 pub mod Bodies
 pub mod Cases
 pub mod Decimals
+pub mod Spelling

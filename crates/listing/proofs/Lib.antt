@@ -2,6 +2,7 @@ pub mod Answers
 pub mod Adding
 pub mod Columns
 pub mod Placing
+pub mod Putting
 pub mod Taking
 pub mod Example
 pub mod Going

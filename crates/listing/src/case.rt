@@ -1,7 +1,7 @@
 // The whole text of a case.
-use cases::is_good;
 use crate::feed::feed;
 use crate::text::Text;
+use cases::is_good;
 use log::Log;
 use message::byte;
 use message::pair;

@@ -1,4 +1,5 @@
 // One line, built from the left. Each function adds a text that the line has room for.
+use cases::decimal_of;
 ghost use mathlib.Core.Path.{_≡_};
 ghost use mathlib.Core.List.{[], _∷_};
 ghost use Prim.Native.Nat.{_+_, _≤_, _<_};
@@ -39,39 +40,28 @@ impl Line {
         line
     }
 
-    fn digit(self, n: u16) -> Line
-        requires { ⌜ (self .length < 16) × (n < 10) ⌝ }
-        ensures { λ r. ⌜ Adds self ((48 + n) ∷ []) r ⌝ }
+    // With more behind it.
+    fn with(self, more: &[u8]) -> Line
+        requires { ⌜ self .length + length (now more) ≤ 16 ⌝ }
+        ensures { λ r. ⌜ Adds self (now (more .entry)) r ⌝ }
     {
-        self.byte(b'0' + n as u8)
+        let start = self.length;
+        let mut bytes = self.bytes;
+        octets::put(&mut bytes[start..], more);
+        Line {
+            bytes,
+            length: start + more.len(),
+        }
     }
 
-    // A number of one, two or three digits.
-    fn short(self, n: u16) -> Line
-        requires { ⌜ (self .length + length (decimal n) ≤ 16) × (n < 1000) ⌝ }
-        ensures { λ r. ⌜ Adds self (decimal n) r ⌝ }
-    {
-        if n < 10 {
-            return self.digit(n);
-        }
-        if n < 100 {
-            return self.digit(n / 10).digit(n % 10);
-        }
-        self.digit(n / 100).digit(n / 10 % 10).digit(n % 10)
-    }
-
-    // Any number: what is left of one of four or five digits stands before its last three.
     fn number(self, n: u16) -> Line
         requires { ⌜ self .length + length (decimal n) ≤ 16 ⌝ }
         ensures { λ r. ⌜ Adds self (decimal n) r ⌝ }
     {
-        if n < 1000 {
-            return self.short(n);
-        }
-        self.short(n / 1000)
-            .digit(n / 100 % 10)
-            .digit(n / 10 % 10)
-            .digit(n % 10)
+        let digits = decimal_of(n);
+        let bytes = digits.bytes;
+        let length = digits.length;
+        self.with(&bytes[..length])
     }
 
     // The number, and with 1 and 2 a colon and the place.

@@ -10,11 +10,11 @@ use Rattle.replay.proofs.main.Tie as tie
 large-buffer-requires : tie.Need-large-buffer-requires
 large-buffer-requires c κs = search needs
 
-slice-aggregate-read-input : tie.Need-slice-aggregate-read-input
-slice-aggregate-read-input c = search needs
+slice-aggregate-read-from : tie.Need-slice-aggregate-read-from
+slice-aggregate-read-from c = search needs
 
-read-input-requires : tie.Need-read-input-requires
-read-input-requires c κs = search needs
+read-from-requires : tie.Need-read-from-requires
+read-from-requires c κs = search needs
 
 slice-aggregate-fail : tie.Need-slice-aggregate-fail
 slice-aggregate-fail c = search needs
@@ -70,8 +70,8 @@ main-spec =
     tie.close
     (tie.spec
     large-buffer-requires
-    slice-aggregate-read-input
-    read-input-requires
+    slice-aggregate-read-from
+    read-from-requires
     slice-aggregate-fail
     fail-requires
     returns

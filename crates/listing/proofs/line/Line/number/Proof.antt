@@ -1,44 +1,41 @@
--- Up to three digits, or three more behind those.
+-- The number's digits, behind the line.
 -- Assumes nothing.
+use mathlib.Core.Path.{_≡_, sym}
 use native.Mathlib.Omega.{arith}
+use lib.ListN.{length}
+use lib.Seq.{length-take-le}
+use Rattle.cases.proofs.Spelling.{spelled-most, spelled-digits}
 use borrow.Author.Needs.{needs}
-use Rattle.listing.proofs.Adding.{adds-both}
-use Rattle.cases.proofs.Decimals.{more-digits, more-long}
 use Rattle.listing.proofs.line.Line.number.Statement.{statement}
 use Rattle.listing.proofs.line.Line.number.Tie as tie
 
-short-requires : tie.Need-short-requires
-short-requires c κs = search needs
+decimal-of-requires : tie.Need-decimal-of-requires
+decimal-of-requires c κs = search needs
+
+array-share-prefix-bytes : tie.Need-array-share-prefix-bytes
+array-share-prefix-bytes c =
+    let d = c .before .decimal-of in
+    let l : length (d .result .bytes) ≡ 5 = search needs in
+    omega (arith, spelled-most _ _ (d .ensures))
+
+slice-aggregate-with : tie.Need-slice-aggregate-with
+slice-aggregate-with c =
+    let d = c .before .before .decimal-of in
+    let l : length (d .result .bytes) ≡ 5 = search needs in
+    sym (length-take-le (d .result .length) (d .result .bytes) (omega (arith, spelled-most _ _ (d .ensures))))
+
+with-requires : tie.Need-with-requires
+with-requires c κs = rw (spelled-digits _ _ (c .before .before .decimal-of .ensures)) (omega arith)
 
 returns : tie.Need-returns
-returns c = c .short .ensures
-
-short-requires-2 : tie.Need-short-requires-2
-short-requires-2 c κs = omega (arith, more-long (c .before .args .n) (omega arith) (omega arith))
-
-digit-requires : tie.Need-digit-requires
-digit-requires c κs = omega (arith, more-long (c .before .before .args .n) (omega arith) (omega arith))
-
-digit-requires-2 : tie.Need-digit-requires-2
-digit-requires-2 c κs = omega (arith, more-long (c .before .before .before .args .n) (omega arith) (omega arith))
-
-digit-requires-3 : tie.Need-digit-requires-3
-digit-requires-3 c κs = omega (arith, more-long (c .before .before .before .before .args .n) (omega arith) (omega arith))
-
-returns-2 : tie.Need-returns-2
-returns-2 c =
-    rw (more-digits (c .before .before .before .before .before .args .n) (omega arith) (omega arith))
-    (adds-both (c .before .before .before .short2 .ensures)
-    (adds-both (adds-both (c .before .before .digit .ensures) (c .before .digit2 .ensures)) (c .digit3 .ensures)))
+returns c = rw (spelled-digits _ _ (c .before .before .before .decimal-of .ensures)) at (c .with .ensures)
 
 pub number-spec : {M : Type 1} → statement M
 number-spec =
     tie.close
     (tie.spec
-    short-requires
-    returns
-    short-requires-2
-    digit-requires
-    digit-requires-2
-    digit-requires-3
-    returns-2)
+    decimal-of-requires
+    array-share-prefix-bytes
+    slice-aggregate-with
+    with-requires
+    returns)

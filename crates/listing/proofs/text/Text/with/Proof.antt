@@ -1,15 +1,13 @@
 -- What is put behind the text stands where zeros stood.
 -- Assumes nothing.
-use mathlib.Core.Path.{_≡_, refl, sym, _∙_, ap, ap₂, subst}
+use mathlib.Core.Path.{_≡_, refl, _∙_, ap, ap₂}
 use mathlib.Core.List.{List, _++_}
-use Prim.Native.Nat.{ℕ, _-_}
+use Prim.Native.Nat.{ℕ}
 use native.Mathlib.Omega.{arith}
 use lib.ListN.{length, length-append}
 use lib.Seq.{paste}
-use borrow.Rule.Slice.PartMut.{midOf, putMid}
-use Rattle.octets.specs.Put.{putList}
-use Rattle.octets.proofs.Places.{put-at}
 use Rattle.listing.specs.declared.text.Text.{Text}
+use Rattle.listing.proofs.Putting.{put-in}
 use Rattle.listing.proofs.Zeros.{put-behind, text-of, length-of}
 use borrow.Author.Needs.{needs}
 use Rattle.listing.proofs.text.Text.with.Statement.{statement}
@@ -38,8 +36,7 @@ returns c =
     let t = k .args .self in
     let m = k .args .more .now in
     let l : length (t .bytes) ≡ 4103 = search needs in
-    let p = subst (λ (n : ℕ). c .before .put .last .0 ≡ putList (midOf (t .length) (n - t .length) (t .bytes)) m) (sym l) (c .before .put .ensures .1) in
-    let q = subst (λ (n : ℕ). putMid (t .length) (n - t .length) (t .bytes) (c .before .put .last .0) ≡ paste (t .bytes) (t .length) m (length m)) l (put-at (t .bytes) m (t .length) (omega (arith, l, k .pre)) p) in (
+    let q = put-in 4103 (t .bytes) m (t .length) l (omega (arith, k .pre)) (c .before .put .ensures .1) in (
       refl,
       λ s e.
           let n : t .length ≡ length s = length-of t s e in

@@ -6,14 +6,14 @@ use native.Mathlib.Omega.{arith}
 use lib.ListN.{length}
 use Rattle.io.proofs.Counting.{counts}
 use borrow.Author.Needs.{needs}
-use Rattle.stdio.proofs.read_input.Statement.{statement}
-use Rattle.stdio.proofs.read_input.Tie as tie
+use Rattle.stdio.proofs.read_from.Statement.{statement}
+use Rattle.stdio.proofs.read_from.Tie as tie
 
 abbrev Inv-loop : tie.InvT-loop
-Inv-loop buffer₀ l₀ buffer l = (length buffer ≡ length buffer₀) × (l ≤ length buffer) × (length buffer < 2 ^ 64)
+Inv-loop descriptor buffer₀ l₀ buffer l = (length buffer ≡ length buffer₀) × (l ≤ length buffer) × (length buffer < 2 ^ 64)
 
 abbrev μ-loop : tie.MeasureT-loop
-μ-loop buffer₀ l₀ buffer l = length buffer - l
+μ-loop descriptor buffer₀ l₀ buffer l = length buffer - l
 
 loop-holds : tie.Need-loop-holds Inv-loop μ-loop
 loop-holds c = omega arith
@@ -69,8 +69,8 @@ same-length-3 c = search needs
 returns-3 : tie.Need-returns-3 Inv-loop μ-loop
 returns-3 c = counts _ _ (omega arith)
 
-pub read-input-spec : {M : Type 1} → statement M
-read-input-spec =
+pub read-from-spec : {M : Type 1} → statement M
+read-from-spec =
     tie.close
     (tie.spec
     Inv-loop
