@@ -1,13 +1,24 @@
 -- The lengths and the bodies of a case from place i on: what is left of them while a loop goes through the contents.
 -- Assumes nothing.
-use mathlib.Core.Path.{_≡_, _∙_, ap, ap₂}
+use mathlib.Core.Path.{_≡_, refl, _∙_, ap, ap₂}
 use mathlib.Core.List.{List, [], _∷_}
-use Prim.Native.Nat.{ℕ, suc, _+_, _-_, _*_, _≤_, _<_}
+use Prim.Native.Nat.{ℕ, zero, suc, _+_, _-_, _*_, _≤_, _<_}
 use native.Mathlib.Omega.{arith}
-use lib.ListN.{take, drop, getD}
+use lib.ListN.{length, take, drop, getD}
 use lib.Seq.{drop-drop, getD-drop}
 use Rattle.message.specs.Numbers.{byteAt, pairAt}
 use Rattle.cases.specs.Contents.{countOf, lengthsIn, lengthsOf, contentsSize, partsOf, bodiesOf, total}
+
+-- as many lengths as are counted, and as many parts as lengths
+pub lengths-many : (n : ℕ) (s : List ℕ) → length (lengthsIn n s) ≡ n
+unfolding lengthsIn
+lengths-many zero s = refl
+lengths-many (suc n) s = ap suc (lengths-many n (drop 2 s))
+
+pub parts-many : (ns s : List ℕ) → length (partsOf ns s) ≡ length ns
+unfolding partsOf
+parts-many [] s = refl
+parts-many (n ∷ ns) s = ap suc (parts-many ns (drop n s))
 
 -- the lengths of the bodies from place i on
 lengthsFrom : List ℕ → ℕ → List ℕ
@@ -60,6 +71,10 @@ module _ (case : List ℕ) (i : ℕ) where
       → bodiesFrom case i at ≡ bodyAt case i at ∷ bodiesFrom case (i + 1) (at + sizeAt case i)
   unfolding bodiesFrom partsOf
   bodies-more at h = rw (lengths-more h, drop-drop)
+
+  pub bodies-count : (at : ℕ) → length (bodiesFrom case i at) ≡ countOf case - i
+  unfolding bodiesFrom lengthsFrom
+  bodies-count at = parts-many (lengthsFrom case i) (drop at case) ∙ lengths-many (countOf case - i) (drop (1 + 2 * i) case)
 
   pub bodies-end : (at : ℕ) → countOf case ≤ i → bodiesFrom case i at ≡ []
   unfolding bodiesFrom partsOf

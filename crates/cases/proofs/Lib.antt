@@ -1,4 +1,5 @@
 pub mod Bodies
 pub mod Cases
+pub mod Laid
 pub mod Decimals
 pub mod Spelling

@@ -1,0 +1,6 @@
+pub mod Differences
+pub mod Comparison
+pub mod Steps
+pub mod Promise
+pub mod Longest
+pub mod Exact
