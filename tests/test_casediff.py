@@ -1,5 +1,5 @@
-"""Order 8 of document 02, 'Compare two cases': program `casediff` against the second program, on pairs of cases, on files that are none
-and on real handshakes. Where the text is short it stands here as well."""
+"""Order 8 of document 02, 'Compare two cases': program `casediff` against the second program, on pairs of cases, on files that are
+none and on real handshakes. Where the text is short it stands here as well."""
 
 import collections
 import fcntl
@@ -699,6 +699,7 @@ TWO_MAKERS = """\
 
 def test_captures_of_two_makers():
     first, second = case_of(CAPTURES / "openssl-client.pcap"), case_of(CAPTURES / "gnutls-client.pcap")
+    assert [[m[0] for m in contents(made)] for made in (first, second)] == [[1, 2, 11, 12, 14, 16, 4]] * 2
     assert compare(first, second) == compare(second, first) == TWO_MAKERS
 
 

@@ -1,6 +1,6 @@
-"""What the programs say where a read or a write fails. A Rattle program has no exit status, so `loglist`, `replay` and `casediff` say it
-on standard error alone; nothing then stands on standard output that could be taken for an answer. A file that `casediff` can't read is a
-case refused (tests/test_casediff.py)."""
+"""What the programs say where a read or a write fails. A Rattle program has no exit status, so `loglist`, `replay` and `casediff` say
+it on standard error alone; nothing then stands on standard output that could be taken for an answer. Where `casediff` cannot read a
+file, that case is refused (tests/test_casediff.py)."""
 
 import os
 import pathlib
