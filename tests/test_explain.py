@@ -11,7 +11,7 @@ import tempfile
 from oracle.casediff import casediff
 from oracle.loglist import LIMIT
 from tests import hellos, wire
-from tests.test_casediff import TWO_MAKERS, block, changed, some_message, written
+from tests.test_casediff import TWO_MAKERS, block, changed, some_message, widest, written
 from tests.test_tools import FLIGHTS, case, frames
 
 ROOT = pathlib.Path(__file__).resolve().parent.parent
@@ -129,6 +129,14 @@ def test_random_pairs():
             lines += len(table) - 1
     assert lines > 500
     return f"{lines} lines"
+
+
+def test_the_longest_table():
+    said = run(*(holding(name, made) for name, made in zip(("first", "second"), widest())))
+    assert said.returncode == 0 and said.stderr == "", said.stderr
+    _, lines, words = parts(said)
+    assert len(lines) == 2 * 8_168 + 4 and lines[0] == "1 byte 6" and lines[-1].startswith("2 extension 4")
+    assert words.count("ServerHello, a type without a name: only in the first") > 8_000
 
 
 # ---- What the files are taken for

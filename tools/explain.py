@@ -12,6 +12,7 @@ Exit status: 0 compared, whatever came out; 1 no verdict, for the reason said; 2
 
 import argparse
 import contextlib
+import functools
 import io
 import pathlib
 import subprocess
@@ -119,6 +120,13 @@ def compared(taken):
 
 # ---- The words
 
+hello = functools.cache(readable)  # there is a line for each of thousands of extensions, maybe
+
+
+@functools.cache
+def extensions(message):
+    return dict(hello(message).extensions)
+
 
 def named(*messages):
     """The message's name; both where they differ."""
@@ -141,13 +149,13 @@ def byte_words(messages, place):
 
 
 def field_words(messages, name):
-    values = [getattr(readable(m), name) for m in messages]
+    values = [getattr(hello(m), name) for m in messages]
     show = {"version": "{:04x}".format, "suites": in_suites}.get(name, in_hex)
     return f", {ABOUT[name][messages[0][0] - 1]}: first {show(values[0])}, second {show(values[1])}"
 
 
 def extension_words(messages, kind):
-    first, second = (readable(m).extension(int(kind)) for m in messages)
+    first, second = (extensions(m).get(int(kind)) for m in messages)
     about = f", {names.extension(int(kind))}: "
     if first is None or second is None:
         return f"{about}only in the {'first' if second is None else 'second'}"
