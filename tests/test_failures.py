@@ -1,5 +1,6 @@
-"""What the programs say where a read or a write fails. A Rattle program has no exit status, so `loglist` and `replay` say it on
-standard error alone; nothing then stands on standard output that could be taken for an answer."""
+"""What the programs say where a read or a write fails. A Rattle program has no exit status, so `loglist`, `replay` and `casediff` say
+it on standard error alone; nothing then stands on standard output that could be taken for an answer. Where `casediff` cannot read a
+file, that case is refused (tests/test_casediff.py)."""
 
 import os
 import pathlib
@@ -7,7 +8,8 @@ import subprocess
 import tty
 
 ROOT = pathlib.Path(__file__).resolve().parent.parent
-LOGLIST, REPLAY, SHA256 = ROOT / "target/bin/loglist", ROOT / "target/bin/replay", ROOT / "target/examples/sha256"
+LOGLIST, REPLAY, CASEDIFF = (ROOT / "target/bin" / name for name in ("loglist", "replay", "casediff"))
+SHA256 = ROOT / "target/examples/sha256"
 CASE = (ROOT / "crates/loglist/stdin").read_bytes()
 
 
@@ -47,9 +49,14 @@ def test_a_case_in_pieces():
 
 def test_failed_writes():
     script = (ROOT / "crates/replay/stdin").read_bytes()
-    for program, name, data in ((LOGLIST, "loglist", CASE), (REPLAY, "replay", script)):
+    for program, name, arguments, data in (
+        (LOGLIST, "loglist", "", CASE),
+        (REPLAY, "replay", "", script),
+        (CASEDIFF, "casediff", "/none /none", b""),  # first refused
+        (CASEDIFF, "casediff", f"'{ROOT}/crates/loglist/stdin' <(printf '\\0')", b""),  # the messages of the first alone
+    ):
         for redirection, reason in ((">/dev/full", "No space left on device"), (">&-", "Bad file descriptor")):
-            said = run(program, redirection, data)
+            said = run(program, f"{arguments} {redirection}", data)
             assert said.stderr.decode() == f"{name}: standard output: {reason}\n", said
 
 

@@ -132,8 +132,12 @@ def read(path):
     raise Refused("it is closed")
 
 
-def write(data):
-    """Whether it is written."""
+def shown(path):
+    return ascii(path)[1:-1] or "the empty name"
+
+
+def write(data, say=say):
+    """Whether it is written; `say` says why not."""
     if sys.stdout is None:
         say("standard output: it is closed")
         return False
@@ -193,7 +197,7 @@ def main():
         reason = "too large for this machine's memory"
     except KeyboardInterrupt:
         reason = "interrupted"
-    say(f"{'standard input' if asked.path is None else ascii(asked.path)[1:-1] or 'the empty name'}: {reason}")
+    say(f"{'standard input' if asked.path is None else shown(asked.path)}: {reason}")
     return 1
 
 
