@@ -18,7 +18,8 @@ use Rattle.cases.specs.Layout.{caseOf}
 use Rattle.cases.proofs.Laid.{laid-out}
 use Rattle.comparing.specs.Differences.{How, first, second, byte, field, extension, Difference, alone, messageDifferences, differencesFrom, differences}
 use Rattle.comparing.specs.Comparison.{line, lineOf, text, firstRefused, secondRefused, comparison}
-use Rattle.comparing.specs.Promise.{longest, tooShort}
+use Rattle.comparing.specs.Longest.{longest}
+use Rattle.comparing.specs.Promise.{tooShort}
 use Rattle.comparing.specs.Exact.{EmptyExactlyWhenEqual, NothingPrinted, RefusedIsPrinted, NothingOfAny, CallTells}
 use Rattle.comparing.proofs.Texts.{line-long}
 

@@ -1,6 +1,6 @@
 -- How long the text of two cases can get (specs/Longest.antt): 106 bytes a pair of messages, and 5 for each of their bytes.
 -- Assumes nothing.
-use mathlib.Core.Path.{_≡_, refl, ap}
+use mathlib.Core.Path.{_≡_, refl}
 use mathlib.Core.Bool.{Bool}
 use mathlib.Core.List.{List, [], _∷_, _++_}
 use Prim.Native.Nat.{ℕ, zero, suc, _+_, _-_, _*_, _≤_, _<_}
@@ -10,7 +10,7 @@ use Rattle.seqs.specs.Bytes.{Bytes}
 use Rattle.seqs.specs.Cases.{by-test}
 use Rattle.octets.specs.Same.{same}
 use Rattle.message.specs.Numbers.{byteAt}
-use Rattle.cases.specs.Contents.{countOf, lengthsIn, lengthsOf, contentsSize, partsOf, bodiesOf, goodCase}
+use Rattle.cases.specs.Contents.{countOf, lengthsOf, contentsSize, partsOf, bodiesOf, goodCase}
 use Rattle.cases.specs.Digits.{ascii, decimal}
 use Rattle.cases.proofs.Bodies.{lengths-many, parts-many}
 use Rattle.cases.proofs.Cases.{good-learnt}

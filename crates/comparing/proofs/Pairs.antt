@@ -1,15 +1,12 @@
 -- The messages of two cases, number by number: those that both have, and then those that one has alone.
 -- Assumes nothing.
-use mathlib.Core.Path.{_≡_, refl, sym, _∙_, ap, ap₂}
+use mathlib.Core.Path.{_≡_, refl, sym, _∙_, ap}
 use mathlib.Core.List.{List, [], _∷_, _++_, append-nil}
 use mathlib.Core.Logic.{_⊎_, inl, inr}
-use Prim.Native.Nat.{ℕ, zero, suc, _+_, _-_, _≤_, _<_}
+use Prim.Native.Nat.{ℕ, _+_, _-_, _≤_, _<_}
 use native.Mathlib.Omega.{arith}
-use lib.Dec.{leb}
 use lib.ListN.{length}
-use borrow.Author.Tests.{leb-true, leb-false}
-use Rattle.seqs.specs.Cases.{by-test}
-use Rattle.cases.specs.Contents.{countOf, contentsSize, bodiesOf}
+use Rattle.cases.specs.Contents.{countOf, contentsSize}
 use Rattle.cases.specs.Digits.{ascii}
 use Rattle.cases.proofs.Bodies.{sizeAt, bodyAt, bodiesFrom, bodies-all, bodies-more, bodies-count, bodies-end}
 use Rattle.comparing.specs.Differences.{first, second, alone, messageDifferences, differencesFrom, differences}

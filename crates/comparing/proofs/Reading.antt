@@ -1,17 +1,16 @@
 -- Two hellos by the answers of their readers: nothing is compared where one does not read, and where both do, the fields at their places.
 -- Assumes nothing.
-use mathlib.Core.Path.{_≡_, sym, _∙_, ap, ap₂}
+use mathlib.Core.Path.{_≡_, sym, _∙_, ap}
 use mathlib.Core.Bool.{false}
 use mathlib.Core.List.{List, [], _++_, append-assoc}
 use Prim.Native.Nat.{ℕ, _+_}
 use lib.ListN.{length, length-append}
 use Rattle.octets.specs.Same.{same}
-use Rattle.hello.specs.Fields.{Hello, Reading, fields, fault, readClient, readServer}
-use Rattle.hello.specs.Places.{bytesAt}
+use Rattle.hello.specs.Fields.{Hello, Reading, fields, readClient, readServer}
 use Rattle.cases.specs.Digits.{ascii, decimal}
 use Rattle.comparing.specs.Differences.{common, fieldDifferences, readDifferences, helloDifferences, messageDifferences}
 use Rattle.comparing.specs.Comparison.{line, lineOf, text}
-use Rattle.comparing.specs.Steps.{Holds, Sees, Within, handed, helloAt}
+use Rattle.comparing.specs.Steps.{Holds, Sees, Within, helloAt}
 use Rattle.comparing.specs.declared.fields.Fields.{Fields}
 use Rattle.comparing.specs.declared.fields.Seen.{Seen}
 use Rattle.comparing.specs.declared.fields.Seen.the-variants as seen

@@ -1,21 +1,20 @@
 -- Types from the lowest on: those that neither list has are passed over.
 -- Assumes nothing.
 use mathlib.Core.Path.{_≡_, refl, sym, _∙_, ap, ap₂}
-use mathlib.Core.Bool.{Bool, true, false}
+use mathlib.Core.Bool.{Bool, false}
 use mathlib.Core.List.{List, [], _∷_, _++_}
 use mathlib.Core.Logic.{_⊎_, inl, inr}
-use mathlib.Core.Option.{Option, none, some}
+use mathlib.Core.Option.{none, some}
 use Prim.Native.Nat.{ℕ, zero, suc, _+_, _-_, _≤_, _<_}
 use native.Mathlib.Omega.{arith}
 use lib.Dec.{eqb}
 use lib.ListN.{length}
 use borrow.Author.Tests.{eq-eqb, ne-eqb, eqb-true, eqb-false}
-use Rattle.seqs.specs.Pick.{pick}
 use Rattle.seqs.specs.Cases.{by-test}
 use Rattle.octets.specs.Same.{same}
 use Rattle.hello.specs.Extensions.{Extension, contentOf}
 use Rattle.hello.specs.Places.{part, behind, bytesAt}
-use Rattle.comparing.specs.Differences.{How, extension, Difference, difference, unless, alike, typesFrom}
+use Rattle.comparing.specs.Differences.{extension, difference, unless, alike, typesFrom}
 use Rattle.comparing.specs.Comparison.{text}
 use Rattle.comparing.specs.Steps.{IsLowest, matched}
 use Rattle.comparing.specs.declared.extensions.Found.{Found}

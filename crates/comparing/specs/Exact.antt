@@ -11,7 +11,8 @@ use Rattle.seqs.specs.Bytes.{Bytes}
 use Rattle.cases.specs.Contents.{goodCase}
 use Rattle.comparing.specs.Differences.{differences}
 use Rattle.comparing.specs.Comparison.{comparison}
-use Rattle.comparing.specs.Promise.{longest, Compares}
+use Rattle.comparing.specs.Longest.{longest}
+use Rattle.comparing.specs.Promise.{Compares}
 use Rattle.comparing.specs.declared.whole.Compared.{Compared}
 
 -- 'Two cases give an empty list exactly when their bytes are equal.' (`empty-exactly-when-equal`)

@@ -1,6 +1,6 @@
 pub mod Differences
 pub mod Comparison
-pub mod Steps
-pub mod Promise
 pub mod Longest
+pub mod Promise
 pub mod Exact
+pub mod Steps

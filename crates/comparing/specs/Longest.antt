@@ -7,6 +7,10 @@ use lib.ListN.{length}
 use Rattle.seqs.specs.Bytes.{Bytes}
 use Rattle.comparing.specs.Comparison.{comparison}
 
--- of any two byte strings: an output of that many bytes holds the whole text
+-- so many: 255 times 106 bytes, and 5 bytes of text for each byte of the two cases (an extension takes 4), rounded up
+abbrev pub longest : ℕ
+longest = 358280
+
+-- of any two byte strings: an output of that many bytes holds the whole text. Proved as `fits` in proofs/Longest.antt.
 abbrev pub Fits : Type 0
-Fits = (a b : List ℕ) → Bytes a → Bytes b → length (comparison a b) ≤ 358280
+Fits = (a b : List ℕ) → Bytes a → Bytes b → length (comparison a b) ≤ longest

@@ -8,14 +8,10 @@ use lib.Dec.{ltb}
 use lib.ListN.{length, drop}
 use Rattle.seqs.specs.Pick.{pick}
 use Rattle.comparing.specs.Comparison.{comparison}
+use Rattle.comparing.specs.Longest.{longest}
 use Rattle.comparing.specs.declared.whole.Compared.{Compared}
 
--- how long a text can get: 255 pairs of messages with 106 bytes of byte and field lines at most, and a line of 20 bytes at most for an
--- extension, which takes 4 bytes of a case of 32,768; rounded up
-abbrev pub longest : ℕ
-longest = 358280
-
--- 10 where the output is shorter than that
+-- the output is shorter than the longest text
 unfoldable pub tooShort : List ℕ → Bool
 tooShort out = ltb (length out) longest
 

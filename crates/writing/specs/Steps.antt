@@ -1,10 +1,9 @@
 -- What the writers' helpers answer.
 -- Assumes nothing.
 use mathlib.Core.Bool.{Bool, false, not, _&&_, _||_}
-use mathlib.Core.List.{List, [], _∷_, _++_}
+use mathlib.Core.List.{List, [], _∷_}
 use Prim.Native.Nat.{ℕ, _+_, _*_, _%_}
 use lib.Dec.{eqb, ltb}
-use lib.ListN.{length, take, drop}
 use Rattle.seqs.specs.Pick.{pick}
 use Rattle.refusal.specs.First.{firstOf}
 

@@ -1,6 +1,6 @@
 -- Of those that came, the lowest is kept.
 -- Assumes nothing.
-use mathlib.Core.Path.{_≡_, sym, _∙_, ap}
+use mathlib.Core.Path.{_≡_, _∙_, ap}
 use Prim.Native.Nat.{_-_}
 use lib.ListN.{length}
 use Rattle.hello.specs.Next.{nextAt}

@@ -1,9 +1,8 @@
 -- From type to type: what is written, with the lines of the types that are left behind it, is the whole.
 -- Assumes nothing.
-use mathlib.Core.Path.{_≡_, sym, _∙_, ap}
-use mathlib.Core.List.{_++_}
-use Prim.Native.Nat.{_+_, _-_, _≤_, _<_}
-use Rattle.comparing.specs.Differences.{extension, difference, unless, typesFrom, extensionDifferences}
+use mathlib.Core.Path.{ap}
+use Prim.Native.Nat.{_-_, _≤_}
+use Rattle.comparing.specs.Differences.{typesFrom, extensionDifferences}
 use Rattle.comparing.specs.Comparison.{text}
 use Rattle.comparing.specs.Steps.{handed}
 use Rattle.comparing.proofs.Putting.{Writing, writing-all, writing-more, writing-none}

@@ -1,7 +1,7 @@
 -- Line by line: what is written, with the lines that are left behind it, is the whole.
 -- Assumes nothing.
 use mathlib.Core.Path.{_≡_, refl}
-use mathlib.Core.List.{[], _++_}
+use mathlib.Core.List.{[]}
 use Prim.Native.Nat.{_+_, _-_, _≤_}
 use Rattle.comparing.specs.Comparison.{line}
 use Rattle.comparing.specs.Steps.{linesFrom}

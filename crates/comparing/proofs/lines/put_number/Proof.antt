@@ -1,12 +1,11 @@
 -- The digits that count, put to their place.
 -- Assumes nothing.
 use mathlib.Core.Path.{_≡_, sym}
-use Prim.Native.Nat.{_≤_}
 use native.Mathlib.Omega.{arith}
 use lib.ListN.{length}
 use lib.Seq.{length-take-le}
 use borrow.Author.Needs.{needs}
-use Rattle.cases.proofs.Spelling.{spelled-long, spelled-most, spelled-digits}
+use Rattle.cases.proofs.Spelling.{spelled-most, spelled-digits}
 use Rattle.comparing.proofs.lines.put_number.Statement.{statement}
 use Rattle.comparing.proofs.lines.put_number.Tie as tie
 

@@ -1,6 +1,6 @@
 -- Pair by pair, and then those that one case has alone.
 -- Assumes nothing.
-use mathlib.Core.Path.{_≡_, sym, _∙_}
+use mathlib.Core.Path.{_≡_, sym}
 use Prim.Native.Nat.{_+_, _*_, _-_, _≤_, _<_}
 use lib.ListN.{length, drop, length-take}
 use Rattle.cases.specs.Contents.{countOf, contentsSize}

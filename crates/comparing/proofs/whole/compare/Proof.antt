@@ -5,6 +5,7 @@ use lib.ListN.{length}
 use borrow.Author.Tests.{lt-ltb, le-ltb}
 use Rattle.octets.proofs.Placing.{placed-front}
 use Rattle.comparing.specs.Comparison.{comparison}
+use Rattle.comparing.specs.Longest.{longest}
 use Rattle.comparing.specs.Promise.{tooShort}
 use Rattle.comparing.proofs.Longest.{fits}
 use borrow.Author.Needs.{needs}
@@ -34,7 +35,7 @@ returns-2 c =
     let a = s .args .first .now in
     let b = s .args .second .now in
     let f = fits a b (λ i. omega (arith, c .before .before .before .before .before .before .before .shared-slice-known .given i)) (λ i. omega (arith, c .before .before .before .before .before .before .shared-slice-known2 .given i)) in
-    let e = le-ltb (length (s .args .out .now)) 358280 (omega arith) in
+    let e = le-ltb (length (s .args .out .now)) longest (omega arith) in
     let p = c .before .before .put-comparison .ensures in
     record {
       number = rw e;
