@@ -2,12 +2,12 @@
 -- Assumes nothing.
 use mathlib.Core.Path.{_≡_, ap}
 use mathlib.Core.Bool.{Bool, true, false}
-use mathlib.Core.List.{List, [], _∷_, _++_}
+use mathlib.Core.List.{List, [], _∷_}
 use mathlib.Core.Option.{Option, none, some}
 use Prim.Native.Nat.{ℕ, zero, suc, _+_, _*_, _≤_, _<_}
 use native.Mathlib.Omega.{arith}
 use lib.Dec.{eqb}
-use lib.ListN.{length, length-append}
+use lib.ListN.{length}
 use borrow.Author.Tests.{ne-eqb, eqb-true}
 use Rattle.seqs.specs.Cases.{by-test}
 use Rattle.cases.specs.Digits.{ascii, decimal}
@@ -15,12 +15,9 @@ use Rattle.cases.proofs.Decimals.{three-most, five-most}
 use Rattle.hello.specs.Extensions.{Extension, contentOf}
 use Rattle.comparing.specs.Differences.{extension, Difference, difference, unless, alike, typesFrom, extensionDifferences}
 use Rattle.comparing.specs.Comparison.{lineOf, text}
-use Rattle.comparing.proofs.Texts.{line-long, text-append, text-one}
+use Rattle.comparing.proofs.Texts.{line-long, two-long, text-one}
 
 -- two texts are as long as both
-pub both-long : (ds es : List Difference) → length (text (ds ++ es)) ≡ length (text ds) + length (text es)
-both-long ds es = rw (text-append ds es) (length-append (text ds) (text es))
-
 pub unless-most : (b : Bool) (d : Difference) → length (text (unless b d)) ≤ length (lineOf d)
 unfolding unless text
 unless-most true d = omega arith
@@ -77,7 +74,7 @@ module _ (i : ℕ) (h : i < 1000) where
   types-most zero t es fs = omega arith
   types-most (suc n) t es fs =
       omega
-      (arith, both-long (unless (alike (contentOf t es) (contentOf t fs)) (difference i (extension t))) (typesFrom i n (t + 1) es fs), one-type t (contentOf t es) (contentOf t fs), types-most n (t + 1) es fs)
+      (arith, two-long (unless (alike (contentOf t es) (contentOf t fs)) (difference i (extension t))) (typesFrom i n (t + 1) es fs), one-type t (contentOf t es) (contentOf t fs), types-most n (t + 1) es fs)
 
   pub extensions-most : (es fs : List Extension) → length (text (extensionDifferences i es fs)) ≤ 20 * (length es + length fs)
   unfolding extensionDifferences

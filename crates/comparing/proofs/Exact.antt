@@ -21,6 +21,7 @@ use Rattle.comparing.specs.Comparison.{line, lineOf, text, firstRefused,
 use Rattle.comparing.specs.Longest.{longest}
 use Rattle.comparing.specs.Promise.{tooShort}
 use Rattle.comparing.specs.Exact.{EmptyExactlyWhenEqual, NothingPrinted, RefusedIsPrinted, NothingOfAny, CallTells}
+use Rattle.comparing.proofs.Judging.{first-bad, second-bad, both-good}
 use Rattle.comparing.proofs.Texts.{line-long}
 
 none-long : {A : Type 0} (xs : List A) → length xs ≡ 0 → xs ≡ []
@@ -80,39 +81,35 @@ unfolding text
 text-none [] e = refl
 text-none (d ∷ ds) e = absurd (line-of-some d (append-eq-nil-iff .0 e .0))
 
--- what is printed of two good cases, and where one of them is bad
+-- where one of them is bad something is printed
 module _ (a b : List ℕ) where
-  printed : goodCase a ≡ true → goodCase b ≡ true → comparison a b ≡ text (differences a b)
-  unfolding comparison
-  printed g h = rw (g, h)
+  first-printed : goodCase a ≡ false → comparison a b ≡ [] → ⊥
+  unfolding firstRefused ascii
+  first-printed g e = cons-ne-nil _ _ (sym (first-bad a b g) ∙ e)
 
-  first-bad : goodCase a ≡ false → comparison a b ≡ [] → ⊥
-  unfolding comparison firstRefused ascii
-  first-bad g e = cons-ne-nil _ _ (rw g at e)
+  second-printed : goodCase a ≡ true → goodCase b ≡ false → comparison a b ≡ [] → ⊥
+  unfolding secondRefused ascii
+  second-printed g h e = cons-ne-nil _ _ (sym (second-bad a b g h) ∙ e)
 
-  second-bad : goodCase a ≡ true → goodCase b ≡ false → comparison a b ≡ [] → ⊥
-  unfolding comparison secondRefused ascii
-  second-bad g h e = cons-ne-nil _ _ (rw (g, h) at e)
-
-  both-good : comparison a b ≡ [] → (goodCase a ≡ true) × (goodCase b ≡ true)
-  both-good e =
+  judged-good : comparison a b ≡ [] → (goodCase a ≡ true) × (goodCase b ≡ true)
+  judged-good e =
       by-test (goodCase a)
-      (λ g. by-test (goodCase b) (λ h. (g, h)) (λ h. absurd (second-bad g h e)))
-      (λ g. absurd (first-bad g e))
+      (λ g. by-test (goodCase b) (λ h. (g, h)) (λ h. absurd (second-printed g h e)))
+      (λ g. absurd (first-printed g e))
 
 pub nothing-printed : NothingPrinted
 unfolding text
 nothing-printed a b p q g h =
     let x = empty-exactly-when-equal a b p q g h in
-    (λ e. x .0 (text-none (differences a b) (sym (printed a b g h) ∙ e)), λ e. printed a b g h ∙ ap text (x .1 e))
+    (λ e. x .0 (text-none (differences a b) (sym (both-good a b g h) ∙ e)), λ e. both-good a b g h ∙ ap text (x .1 e))
 
 pub refused-is-printed : RefusedIsPrinted
-refused-is-printed a b (inl g) e = not-both (both-good a b e .0) g
-refused-is-printed a b (inr h) e = not-both (both-good a b e .1) h
+refused-is-printed a b (inl g) e = not-both (judged-good a b e .0) g
+refused-is-printed a b (inr h) e = not-both (judged-good a b e .1) h
 
 pub nothing-of-any : NothingOfAny
 nothing-of-any a b p q =
-    (λ e. let (g, h) = both-good a b e in (g, nothing-printed a b p q g h .0 e), λ g e. nothing-printed a b p q g (rw e at g) .1 e)
+    (λ e. let (g, h) = judged-good a b e in (g, nothing-printed a b p q g h .0 e), λ g e. nothing-printed a b p q g (rw e at g) .1 e)
 
 pub call-tells : CallTells
 unfolding tooShort

@@ -1,12 +1,12 @@
 pub mod Putting
 pub mod Texts
+pub mod Beginnings
 pub mod Handing
 pub mod Types
-pub mod Beginnings
-pub mod Counting
-pub mod Longest
 pub mod Reading
-pub mod Exact
-pub mod Examples
 pub mod Pairs
 pub mod Judging
+pub mod Counting
+pub mod Longest
+pub mod Exact
+pub mod Examples

@@ -23,8 +23,8 @@ use Rattle.hello.proofs.Learnt.{client-learnt, server-learnt}
 use Rattle.comparing.specs.Differences.{How, first, second, byte, field, Difference, difference, unless, common, fieldDifferences, extensionDifferences, readDifferences, helloDifferences, messageDifferences, alone, differencesFrom, differences}
 use Rattle.comparing.specs.Comparison.{lineOf, text, firstRefused, secondRefused, comparison}
 use Rattle.comparing.specs.Longest.{Fits}
-use Rattle.comparing.proofs.Texts.{line-long}
-use Rattle.comparing.proofs.Counting.{both-long, unless-most, extensions-most}
+use Rattle.comparing.proofs.Texts.{line-long, two-long}
+use Rattle.comparing.proofs.Counting.{unless-most, extensions-most}
 
 -- the bytes of an extension are 4 at least, and those of a hello that was read all stand in its message
 four-each : (es : List Extension) → 4 * length es ≤ sizeOf es
@@ -72,7 +72,7 @@ module _ (i : ℕ) (h : i < 1000) where
   unfolding lineOf ascii
   field-more ds b name k g =
       omega
-      (arith, both-long ds (unless b (difference i (field name))), unless-most b (difference i (field name)), line-long i (ascii "field ") name, three-most i h)
+      (arith, two-long ds (unless b (difference i (field name))), unless-most b (difference i (field name)), line-long i (ascii "field ") name, three-most i h)
 
   fields-most : (f g : Hello) → length (text (fieldDifferences i f g)) ≤ 91
   unfolding fieldDifferences ascii
@@ -88,7 +88,7 @@ module _ (i : ℕ) (h : i < 1000) where
   read-most m n (fields f) (fault k p) a b = omega arith
   read-most m n (fields f) (fields g) a b =
       omega
-      (arith, both-long (fieldDifferences i f g) (extensionDifferences i (f .extensions) (g .extensions)), fields-most f g, extensions-most i h (f .extensions) (g .extensions), a f refl, b g refl)
+      (arith, two-long (fieldDifferences i f g) (extensionDifferences i (f .extensions) (g .extensions)), fields-most f g, extensions-most i h (f .extensions) (g .extensions), a f refl, b g refl)
 
   read-none : (r s : Reading) (k p : ℕ) → r ≡ fault k p → length (text (readDifferences i r s)) ≡ 0
   unfolding readDifferences text
@@ -101,7 +101,7 @@ module _ (i : ℕ) (h : i < 1000) where
       where
         both : length (text (helloDifferences i m n))
             ≡ length (text (readDifferences i (readClient m) (readClient n))) + length (text (readDifferences i (readServer m) (readServer n)))
-        both = both-long (readDifferences i (readClient m) (readClient n)) (readDifferences i (readServer m) (readServer n))
+        both = two-long (readDifferences i (readClient m) (readClient n)) (readDifferences i (readServer m) (readServer n))
 
         go : (r : Reading) → readClient m ≡ r → (s : Reading) → readServer m ≡ s → length (text (helloDifferences i m n)) ≤ 91 + 5 * (length m + length n)
         go (fault k p) d s e =
@@ -144,7 +144,7 @@ all-most k i (m ∷ ms) [] h p q =
     omega (arith, alone-most first (λ j g. omega (arith, first-most j g)) (length (m ∷ ms)) i (omega arith))
 all-most k i (m ∷ ms) (n ∷ ns) h p q =
     omega
-    (arith, both-long (messageDifferences i m n) (differencesFrom (i + 1) ms ns), message-most i (omega arith) m n, all-most (k - 1) (i + 1) ms ns (omega arith) (omega arith) (omega arith))
+    (arith, two-long (messageDifferences i m n) (differencesFrom (i + 1) ms ns), message-most i (omega arith) m n, all-most (k - 1) (i + 1) ms ns (omega arith) (omega arith) (omega arith))
 
 -- the messages of a case: as many as counted, and no more bytes than it has
 parts-most : (ns s : List ℕ) → sizes (partsOf ns s) ≤ length s

@@ -2,7 +2,7 @@
 -- Assumes nothing.
 use mathlib.Core.Path.{_≡_, sym, _∙_, ap}
 use mathlib.Core.Bool.{false}
-use mathlib.Core.List.{List, [], _++_, append-assoc}
+use mathlib.Core.List.{List, _++_, append-assoc}
 use Prim.Native.Nat.{ℕ, _+_}
 use lib.ListN.{length, length-append}
 use Rattle.octets.specs.Same.{same}
@@ -10,50 +10,34 @@ use Rattle.hello.specs.Fields.{Hello, Reading, fields, readClient, readServer}
 use Rattle.cases.specs.Digits.{ascii, decimal}
 use Rattle.comparing.specs.Differences.{common, fieldDifferences, readDifferences, helloDifferences, messageDifferences}
 use Rattle.comparing.specs.Comparison.{line, lineOf, text}
-use Rattle.comparing.specs.Steps.{Holds, Sees, Within, helloAt}
+use Rattle.comparing.specs.Steps.{Holds, Sees, helloAt, SeenWithin, readingAt}
 use Rattle.comparing.specs.declared.fields.Fields.{Fields}
 use Rattle.comparing.specs.declared.fields.Seen.{Seen}
 use Rattle.comparing.specs.declared.fields.Seen.the-variants as seen
 use Rattle.comparing.proofs.Texts.{text-append}
 
-module _ (i : ℕ) (m : List ℕ) (r s : Reading) where
-  pub unread-first : (v : Seen) → v ≡ seen.Unread → Sees m r v → readDifferences i r s ≡ []
-  unfolding readDifferences
-  unread-first v e h =
-      let x : Sees m r seen.Unread = rw e at h in
-      rw (x .2)
+pub seen-within : (m : List ℕ) (r : Reading) (v : Seen) → Sees m r v → SeenWithin m v
+seen-within m r (seen.Read x) = λ (f, e, h).
+    record { random = h .random .within; identifier = h .identifier .within; suites = h .suites .within; methods = h .methods .within }
+seen-within m r seen.Unread = λ h. tt
 
-  pub unread-second : (v : Seen) → v ≡ seen.Unread → (f : Hello) → r ≡ fields f → Sees m s v → readDifferences i r s ≡ []
-  unfolding readDifferences
-  unread-second v e f p h =
-      let x : Sees m s seen.Unread = rw e at h in
-      rw (p, x .2)
-
--- a hello that was read, by its places
-pub record Read (m : List ℕ) (r : Reading) (x : Fields) : Type 0 where
-  pub hello : Hello
-  pub reading : r ≡ fields hello
-  pub holds : Holds m x hello
-
-pub was-read : (m : List ℕ) (r : Reading) (v : Seen) (x : Fields) → v ≡ seen.Read x → Sees m r v → Read m r x
-was-read m r v x e h =
-    let y : Sees m r (seen.Read x) = rw e at h in
-    record { hello = y .0; reading = y .1; holds = y .2 }
-
-pub within : {m : List ℕ} {r : Reading} {x : Fields} → Read m r x → Within m x
-within p =
-    record {
-      random = p .holds .random .within;
-      identifier = p .holds .identifier .within;
-      suites = p .holds .suites .within;
-      methods = p .holds .methods .within;
-    }
-
-pub both-read : (i : ℕ) (a b : List ℕ) (r s : Reading) (x y : Fields) → Read a r x → Read b s y
-    → readDifferences i r s ≡ readDifferences i (fields (helloAt a x)) (fields (helloAt b y))
+both-read : (i : ℕ) (a b : List ℕ) (x y : Fields) (f g : Hello) → Holds a x f → Holds b y g
+    → readDifferences i (fields f) (fields g) ≡ readDifferences i (fields (helloAt a x)) (fields (helloAt b y))
 unfolding readDifferences fieldDifferences helloAt
-both-read i a b r s x y p q =
-    rw (p .reading, q .reading, p .holds .version, q .holds .version, p .holds .random .is, q .holds .random .is, p .holds .identifier .is, q .holds .identifier .is, p .holds .suites .is, q .holds .suites .is, p .holds .methods .is, q .holds .methods .is, p .holds .extensions, q .holds .extensions)
+both-read i a b x y f g p q =
+    rw (p .version, q .version, p .random .is, q .random .is, p .identifier .is, q .identifier .is, p .suites .is, q .suites .is, p .methods .is, q .methods .is, p .extensions, q .extensions)
+
+pub seen-both : (i : ℕ) (a b : List ℕ) (r s : Reading) (v w : Seen) → Sees a r v → Sees b s w
+    → readDifferences i r s ≡ readDifferences i (readingAt a v) (readingAt b w)
+unfolding readDifferences readingAt
+seen-both i a b r s seen.Unread w = λ h k. rw (h .2)
+seen-both i a b r s (seen.Read x) seen.Unread = λ h k. rw (h .1, k .2)
+seen-both i a b r s (seen.Read x) (seen.Read y) = λ h k. rw (h .1, k .1) (both-read i a b x y (h .0) (k .0) (h .2) (k .2))
+
+-- as the text, with the reading of each by its reader
+pub seen-text : (i : ℕ) (a b : List ℕ) (r s : Reading) (v w : Seen) → Sees a r v → Sees b s w
+    → text (readDifferences i r s) ≡ text (readDifferences i (readingAt a v) (readingAt b w))
+seen-text i a b r s v w h k = ap text (seen-both i a b r s v w h k)
 
 -- the line of the place where two messages differ
 abbrev pub byteLine : ℕ → List ℕ → List ℕ → List ℕ

@@ -75,6 +75,15 @@ helloAt m x =
       extensions = handed m (x .list);
     }
 
+-- what was seen of a message, within it, and as a reading; which fault there is is not compared
+abbrev pub SeenWithin : List ℕ → Seen → Type 0
+SeenWithin m (seen.Read x) = Within m x
+SeenWithin m seen.Unread = Unit {0}
+
+unfoldable pub readingAt : List ℕ → Seen → Reading
+readingAt m (seen.Read x) = fields (helloAt m x)
+readingAt m seen.Unread = fault 0 0
+
 -- the extension of the least type from low on among es, with its data; of type 65,536, which is none, where there is none
 pub record IsLowest (m : List ℕ) (es : List Extension) (low : ℕ) (r : Found) : Type 0 where
   pub most : r .kind ≤ 65536

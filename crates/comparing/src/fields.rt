@@ -120,31 +120,31 @@ pub(crate) fn put_fields(
     requires { ⌜ at + length (text (fieldDifferences number (helloAt (now a) x) (helloAt (now b) y))) ≤ length (now out) ⌝ }
     ensures { λ r. ⌜ Puts (now (out .entry)) at (text (fieldDifferences number (helloAt (now (a .entry)) x) (helloAt (now (b .entry)) y))) (now (out .exit)) r ⌝ }
 {
-    let at1 = put_field(out, at, number, b"version", x.version == y.version);
-    let at2 = put_field(
+    let at = put_field(out, at, number, b"version", x.version == y.version);
+    let at = put_field(
         out,
-        at1,
+        at,
         number,
         b"random",
         same_part(a, x.random, b, y.random),
     );
-    let at3 = put_field(
+    let at = put_field(
         out,
-        at2,
+        at,
         number,
         b"identifier",
         same_part(a, x.identifier, b, y.identifier),
     );
-    let at4 = put_field(
+    let at = put_field(
         out,
-        at3,
+        at,
         number,
         b"suites",
         same_part(a, x.suites, b, y.suites),
     );
     put_field(
         out,
-        at4,
+        at,
         number,
         b"methods",
         same_part(a, x.methods, b, y.methods),

@@ -30,11 +30,11 @@ pub(crate) fn put_line(out: &mut [u8], at: usize, number: u8, word: &[u8], of: &
     requires { ⌜ at + length (line number (now word) (now of)) ≤ length (now out) ⌝ }
     ensures { λ r. ⌜ Puts (now (out .entry)) at (line number (now (word .entry)) (now (of .entry))) (now (out .exit)) r ⌝ }
 {
-    let space = put_number(out, at, number as u16);
-    let from = put(out, space, b" ");
-    let behind = put(out, from, word);
-    let end = put(out, behind, of);
-    put(out, end, b"\n")
+    let at = put_number(out, at, number as u16);
+    let at = put(out, at, b" ");
+    let at = put(out, at, word);
+    let at = put(out, at, of);
+    put(out, at, b"\n")
 }
 
 // The same of a number.

@@ -1,6 +1,5 @@
 // The messages of two cases, number by number.
 use crate::extensions::put_extensions;
-use crate::fields::Fields;
 use crate::fields::Seen;
 use crate::fields::as_client;
 use crate::fields::as_server;
@@ -15,10 +14,9 @@ ghost use mathlib.Core.Bool.{true};
 ghost use Prim.Native.Nat.{_+_, _≤_, _<_};
 ghost use lib.ListN.{length};
 ghost use Rattle.cases.specs.Contents.{goodCase};
-ghost use Rattle.hello.specs.Fields.{Reading, readClient, readServer};
 ghost use Rattle.comparing.specs.Differences.{common, readDifferences, helloDifferences, messageDifferences, differences};
 ghost use Rattle.comparing.specs.Comparison.{text};
-ghost use Rattle.comparing.specs.Steps.{Puts, Within, helloAt};
+ghost use Rattle.comparing.specs.Steps.{Puts, SeenWithin, readingAt};
 
 // How many bytes both begin with alike.
 fn common(a: &[u8], b: &[u8]) -> usize
@@ -37,52 +35,28 @@ fn common(a: &[u8], b: &[u8]) -> usize
     i
 }
 
-// Two hellos that were read: their fields, then their extensions.
-fn put_read(
+// Two hellos, where both were read: their fields, then their extensions.
+fn put_hellos(
     out: &mut [u8],
     at: usize,
     number: u8,
     a: &[u8],
-    x: Fields,
+    first: Seen,
     b: &[u8],
-    y: Fields,
+    second: Seen,
 ) -> usize
-    requires { ⌜ Within (now a) x × Within (now b) y ⌝ }
-    requires { ⌜ at + length (text (readDifferences number (Reading.fields (helloAt (now a) x)) (Reading.fields (helloAt (now b) y)))) ≤ length (now out) ⌝ }
-    ensures { λ r. ⌜ Puts (now (out .entry)) at (text (readDifferences number (Reading.fields (helloAt (now (a .entry)) x)) (Reading.fields (helloAt (now (b .entry)) y)))) (now (out .exit)) r ⌝ }
+    requires { ⌜ SeenWithin (now a) first × SeenWithin (now b) second ⌝ }
+    requires { ⌜ at + length (text (readDifferences number (readingAt (now a) first) (readingAt (now b) second))) ≤ length (now out) ⌝ }
+    ensures { λ r. ⌜ Puts (now (out .entry)) at (text (readDifferences number (readingAt (now (a .entry)) first) (readingAt (now (b .entry)) second))) (now (out .exit)) r ⌝ }
 {
-    let behind = put_fields(out, at, number, a, x, b, y);
-    put_extensions(out, behind, number, a, x.list, b, y.list)
-}
-
-fn put_clients(out: &mut [u8], at: usize, number: u8, a: &[u8], b: &[u8]) -> usize
-    requires { ⌜ at + length (text (readDifferences number (readClient (now a)) (readClient (now b)))) ≤ length (now out) ⌝ }
-    ensures { λ r. ⌜ Puts (now (out .entry)) at (text (readDifferences number (readClient (now (a .entry))) (readClient (now (b .entry))))) (now (out .exit)) r ⌝ }
-{
-    let first = as_client(a);
     let Seen::Read(x) = first else {
         return at;
     };
-    let second = as_client(b);
     let Seen::Read(y) = second else {
         return at;
     };
-    put_read(out, at, number, a, x, b, y)
-}
-
-fn put_servers(out: &mut [u8], at: usize, number: u8, a: &[u8], b: &[u8]) -> usize
-    requires { ⌜ at + length (text (readDifferences number (readServer (now a)) (readServer (now b)))) ≤ length (now out) ⌝ }
-    ensures { λ r. ⌜ Puts (now (out .entry)) at (text (readDifferences number (readServer (now (a .entry))) (readServer (now (b .entry))))) (now (out .exit)) r ⌝ }
-{
-    let first = as_server(a);
-    let Seen::Read(x) = first else {
-        return at;
-    };
-    let second = as_server(b);
-    let Seen::Read(y) = second else {
-        return at;
-    };
-    put_read(out, at, number, a, x, b, y)
+    let at = put_fields(out, at, number, a, x, b, y);
+    put_extensions(out, at, number, a, x.list, b, y.list)
 }
 
 // Two messages of one number: where they differ at all, the place first.
@@ -93,9 +67,9 @@ fn put_message(out: &mut [u8], at: usize, number: u8, a: &[u8], b: &[u8]) -> usi
     if octets::same(a, b) {
         return at;
     }
-    let clients = put_numbered(out, at, number, b"byte ", common(a, b) as u16);
-    let servers = put_clients(out, clients, number, a, b);
-    put_servers(out, servers, number, a, b)
+    let at = put_numbered(out, at, number, b"byte ", common(a, b) as u16);
+    let at = put_hellos(out, at, number, a, as_client(a), b, as_client(b));
+    put_hellos(out, at, number, a, as_server(a), b, as_server(b))
 }
 
 // The messages that both cases have, in pairs; then those that one has alone.
@@ -118,6 +92,6 @@ pub(crate) fn put_messages(out: &mut [u8], a: &[u8], b: &[u8]) -> usize
         q = q_end;
         i += 1;
     }
-    let behind = put_alone(out, at, both, first, b"first");
-    put_alone(out, behind, both, second, b"second")
+    let at = put_alone(out, at, both, first, b"first");
+    put_alone(out, at, both, second, b"second")
 }
