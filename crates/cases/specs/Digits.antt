@@ -17,6 +17,6 @@ unfoldable pub digits : ℕ → ℕ → List ℕ
 digits zero n = []
 digits (suc k) n = pick (ltb n 10) [] (digits k (n / 10)) ++ ((48 + n % 10) ∷ [])
 
--- a number below 100,000: all that are printed are bytes and places of a message
+-- a number below 100,000: all that are printed are bytes, places of a message and types of an extension
 unfoldable pub decimal : ℕ → List ℕ
 decimal n = digits 5 n
