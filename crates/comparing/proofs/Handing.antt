@@ -41,7 +41,7 @@ module _ (m : List ℕ) (at : ℕ) where
       (λ t. here (leb-true _ _ t))
       (λ t. absurd (h (ap (λ (x : Next). x .found) (next-none m at (leb-false _ _ t)))))
 
-  pub none-left : nextAt m at .found ≡ 0 → nextAt m at ≡ noNext
+  none-left : nextAt m at .found ≡ 0 → nextAt m at ≡ noNext
   unfolding n
   none-left h =
       by-test (leb (at + 4 + n) (length m))

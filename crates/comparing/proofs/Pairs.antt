@@ -43,7 +43,7 @@ module _ (a b : List ℕ) where
     pairs-more h k = rw (bodies-more a i p h, bodies-more b i q k) (text-append _ _)
 
     -- one of the two has no more
-    pub pairs-end : (countOf a ≤ i) ⊎ (countOf b ≤ i)
+    pairs-end : (countOf a ≤ i) ⊎ (countOf b ≤ i)
         → pairsText a b i p q ≡ linesFrom (ascii "first") (i + 1) (countOf a - i) ++ linesFrom (ascii "second") (i + 1) (countOf b - i)
     unfolding pairsText
     pairs-end (inl h) =

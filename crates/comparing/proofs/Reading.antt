@@ -27,7 +27,7 @@ unfolding readDifferences fieldDifferences helloAt
 both-read i a b x y f g p q =
     rw (p .version, q .version, p .random .is, q .random .is, p .identifier .is, q .identifier .is, p .suites .is, q .suites .is, p .methods .is, q .methods .is, p .extensions, q .extensions)
 
-pub seen-both : (i : ℕ) (a b : List ℕ) (r s : Reading) (v w : Seen) → Sees a r v → Sees b s w
+seen-both : (i : ℕ) (a b : List ℕ) (r s : Reading) (v w : Seen) → Sees a r v → Sees b s w
     → readDifferences i r s ≡ readDifferences i (readingAt a v) (readingAt b w)
 unfolding readDifferences readingAt
 seen-both i a b r s seen.Unread w = λ h k. rw (h .2)

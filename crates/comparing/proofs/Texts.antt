@@ -15,7 +15,7 @@ use Rattle.comparing.specs.Comparison.{line, lineOf, text}
 use Rattle.comparing.specs.Steps.{Puts, linesFrom}
 use Rattle.comparing.proofs.Putting.{puts-both}
 
-pub five-long : (p₁ p₂ p₃ p₄ p₅ : List ℕ) → length (p₁ ++ p₂ ++ p₃ ++ p₄ ++ p₅) ≡ length p₁ + length p₂ + length p₃ + length p₄ + length p₅
+five-long : (p₁ p₂ p₃ p₄ p₅ : List ℕ) → length (p₁ ++ p₂ ++ p₃ ++ p₄ ++ p₅) ≡ length p₁ + length p₂ + length p₃ + length p₄ + length p₅
 five-long p₁ p₂ p₃ p₄ p₅ = simp length-append
 
 pub line-long : (i : ℕ) (word of : List ℕ) → length (line i word of) ≡ length (decimal i) + 2 + length word + length of
@@ -31,7 +31,7 @@ pub two-long : (ds es : List Difference) → length (text (ds ++ es)) ≡ length
 two-long ds es = ap length (text-append ds es) ∙ length-append (text ds) (text es)
 
 -- of five lists
-pub text-five : (a b c d e : List Difference) → text (a ++ b ++ c ++ d ++ e) ≡ text a ++ text b ++ text c ++ text d ++ text e
+text-five : (a b c d e : List Difference) → text (a ++ b ++ c ++ d ++ e) ≡ text a ++ text b ++ text c ++ text d ++ text e
 text-five a b c d e = simp text-append
 
 -- the lines of the fields, one behind the other

@@ -22,13 +22,13 @@ use Rattle.comparing.proofs.Putting.{Writing, writing-room}
 use Rattle.comparing.proofs.Texts.{text-append}
 
 -- the data of a type in two lists, one behind the other: the first list's, or else the second's
-pub content-first : (t : ℕ) (d : List ℕ) (es fs : List Extension) → contentOf t es ≡ some d → contentOf t (es ++ fs) ≡ some d
+content-first : (t : ℕ) (d : List ℕ) (es fs : List Extension) → contentOf t es ≡ some d → contentOf t (es ++ fs) ≡ some d
 unfolding contentOf
 content-first t d [] fs h = let z : _≡_ {A = ℕ} 0 1 = cc in absurd (omega arith)
 content-first t d (e ∷ es) fs h =
     by-test (eqb (e .kind) t) (λ p. rw p (rw p at h)) (λ p. rw p (content-first t d es fs (rw p at h)))
 
-pub content-second : (t : ℕ) (es fs : List Extension) → contentOf t es ≡ none → contentOf t (es ++ fs) ≡ contentOf t fs
+content-second : (t : ℕ) (es fs : List Extension) → contentOf t es ≡ none → contentOf t (es ++ fs) ≡ contentOf t fs
 unfolding contentOf
 content-second t [] fs h = refl
 content-second t (e ∷ es) fs h =
