@@ -32,25 +32,25 @@ unfolding sizeOf
 four-each [] = omega arith
 four-each (e ∷ es) = omega (arith, four-each es)
 
-abbrev Holds : List ℕ → Reading → Type 0
-Holds m r = (f : Hello) → r ≡ fields f → 4 * length (f .extensions) ≤ length m
+abbrev HasRoom : List ℕ → Reading → Type 0
+HasRoom m r = (f : Hello) → r ≡ fields f → 4 * length (f .extensions) ≤ length m
 
-client-holds : (m : List ℕ) → Holds m (readClient m)
+client-room : (m : List ℕ) → HasRoom m (readClient m)
 unfolding clientAnswer clientPlaces extensionsAt
-client-holds m f e = omega (arith, client-learnt m (clientPlaces 4 f) (rw e) .extensions .ends, four-each (f .extensions))
+client-room m f e = omega (arith, client-learnt m (clientPlaces 4 f) (rw e) .extensions .ends, four-each (f .extensions))
 
-server-holds : (m : List ℕ) → Holds m (readServer m)
+server-room : (m : List ℕ) → HasRoom m (readServer m)
 unfolding serverAnswer serverPlaces extensionsAt
-server-holds m f e = omega (arith, server-learnt m (serverPlaces 4 f) (rw e) .extensions .ends, four-each (f .extensions))
+server-room m f e = omega (arith, server-learnt m (serverPlaces 4 f) (rw e) .extensions .ends, four-each (f .extensions))
 
 -- no message reads as both
 one-kind : (m : List ℕ) (f g : Hello) → readClient m ≡ fields f → readServer m ≡ fields g → ⊥
 unfolding readClient readServer
 one-kind m f g d e = omega (arith, clean clientForm m f d .kind, clean serverForm m g e .kind)
 
-no-lines : length (text []) ≤ 0
+none-most : length (text []) ≤ 0
 unfolding text
-no-lines = omega arith
+none-most = omega arith
 
 module _ (i : ℕ) (h : i < 1000) where
   -- the lines of one message
@@ -79,10 +79,10 @@ module _ (i : ℕ) (h : i < 1000) where
   fields-most f g =
       field-more _ _ (ascii "methods") 73
       (field-more _ _ (ascii "suites") 56
-      (field-more _ _ (ascii "identifier") 35 (field-more _ _ (ascii "random") 18 (field-more [] _ (ascii "version") 0 no-lines))))
+      (field-more _ _ (ascii "identifier") 35 (field-more _ _ (ascii "random") 18 (field-more [] _ (ascii "version") 0 none-most))))
 
   -- a line of an extension has 20 bytes, and an extension 4
-  read-most : (m n : List ℕ) (r s : Reading) → Holds m r → Holds n s → length (text (readDifferences i r s)) ≤ 91 + 5 * (length m + length n)
+  read-most : (m n : List ℕ) (r s : Reading) → HasRoom m r → HasRoom n s → length (text (readDifferences i r s)) ≤ 91 + 5 * (length m + length n)
   unfolding readDifferences text
   read-most m n (fault k p) s a b = omega arith
   read-most m n (fields f) (fault k p) a b = omega arith
@@ -106,10 +106,10 @@ module _ (i : ℕ) (h : i < 1000) where
         go : (r : Reading) → readClient m ≡ r → (s : Reading) → readServer m ≡ s → length (text (helloDifferences i m n)) ≤ 91 + 5 * (length m + length n)
         go (fault k p) d s e =
             omega
-            (arith, both, read-none (readClient m) (readClient n) k p d, read-most m n (readServer m) (readServer n) (server-holds m) (server-holds n))
+            (arith, both, read-none (readClient m) (readClient n) k p d, read-most m n (readServer m) (readServer n) (server-room m) (server-room n))
         go (fields f) d (fault k p) e =
             omega
-            (arith, both, read-none (readServer m) (readServer n) k p e, read-most m n (readClient m) (readClient n) (client-holds m) (client-holds n))
+            (arith, both, read-none (readServer m) (readServer n) k p e, read-most m n (readClient m) (readClient n) (client-room m) (client-room n))
         go (fields f) d (fields g) e = absurd (one-kind m f g d e)
 
     message-most : length (text (messageDifferences i m n)) ≤ 106 + 5 * (length m + length n)

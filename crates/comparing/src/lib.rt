@@ -1,5 +1,4 @@
 // What the program `casediff` prints: the differences of two cases, a line each.
-
 mod extensions;
 mod fields;
 mod lines;
