@@ -1,4 +1,6 @@
 // A case: handshake messages in a file, behind their contents. What the programs over cases share.
+#![tactic(auto)]
+
 mod contents;
 mod digits;
 

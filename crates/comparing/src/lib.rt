@@ -1,4 +1,6 @@
 // What the program `casediff` prints: the differences of two cases, a line each.
+#![tactic(auto)]
+
 mod extensions;
 mod fields;
 mod lines;

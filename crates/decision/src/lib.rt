@@ -1,4 +1,6 @@
 // The server's and the client's decisions on a hello: renegotiation (RFC 5746), resumption and the extended master secret (RFC 7627).
+#![tactic(auto)]
+
 mod client;
 mod connection;
 mod indication;

@@ -1,4 +1,6 @@
 // The outer face: every public call as a C function over plain structs and lent bytes (include/axle_gateway.h).
+#![tactic(auto)]
+
 mod completion;
 mod decisions;
 mod hash;

@@ -1,5 +1,7 @@
 // Reading the two hellos of a handshake (RFC 5246, sections 7.4.1.2 and 7.4.1.3). What is read stays in the message: the answers
 // are places in it.
+#![tactic(auto)]
+
 mod client;
 mod extensions;
 mod layout;

@@ -1,4 +1,6 @@
 // A script of calls, run over the session table: the book's answers, by running code.
+#![tactic(auto)]
+
 ghost use Rattle.std.specs.Prelude.{◌≡◌, [], ◌≤◌, min, length};
 ghost use Rattle.refusal.specs.Table.{refusal_of};
 ghost use Rattle.octets.specs.Put.{put_number, put_list};

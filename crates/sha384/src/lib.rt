@@ -1,4 +1,6 @@
 // SHA-384 (FIPS 180-4): a running hash that is carried by value, the hash of a whole message, and the hash value of one block.
+#![tactic(auto)]
+
 mod begun;
 mod compress;
 mod running;

@@ -1,5 +1,7 @@
 // The hashes that a log carries from message to message. Upper parts know what they stand for (`Carries` of specs/), and not how one is
 // laid out.
+#![tactic(auto)]
+
 ghost use Rattle.std.specs.Prelude.{◌≡◌, List, [], ℕ, ◌≤◌};
 ghost use Rattle.sha256.specs.Sha256.{sha256};
 ghost use Rattle.sha384.specs.Sha384.{sha384};
