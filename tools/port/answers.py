@@ -19,6 +19,24 @@ TRIVIAL = {"search rules", "omega arith", "refl", "tt"}
 TOK = r"[^\s(){}\[\].;,@\"«»:]+"
 
 
+def parameters(crate, path):
+    """the names of the parameters of the function at path, from src/"""
+    parts = path.split("/")
+    fn = parts[-1].lstrip("+")
+    files = sorted(os.listdir(f"crates/{crate}/src"), key=lambda p: p[:-3] not in parts)
+    for p in files:
+        t = open(f"crates/{crate}/src/{p}", encoding="utf8").read()
+        m = re.search(rf"\bfn {re.escape(fn)}(?:<[^>]*>)?\(([^)]*)\)", t)
+        if m:
+            names = []
+            for a in m.group(1).split(","):
+                a = a.strip()
+                if a:
+                    names.append("self" if a.replace("&", "").replace("mut ", "").strip() == "self" else a.split(":")[0].replace("mut ", "").strip())
+            return names
+    return []
+
+
 def canon(name):
     return name.replace("_", "-").replace("overflow-", "")
 
@@ -70,6 +88,8 @@ def split(text):
 class Names:
     def __init__(self, j):
         self.needs = {canon(o): n for o, n in j["needs"]}
+        self.params = []
+        self.places = {canon(p[0]): q for p, q in zip(j["places"], j["places_by_name"])}
         self.loops = {}
         for (names, vars_), changed in zip(j["loops"], j["changed"]):
             self.loops[canon(names[0]).replace("-", "")] = (names[1], vars_, changed)
@@ -100,6 +120,8 @@ def convert_path(path, names, said):
     if not comps:
         return comps
     key = canon(comps[0]).replace("-", "")
+    if comps[0] == "args":
+        return comps
     # an arm of a match: match.keys1, match.some.x ..
     for n in range(len(comps), 0, -1):
         arm = names.arms.get((key, tuple(comps[1:n])))
@@ -111,25 +133,48 @@ def convert_path(path, names, said):
             ps = names.callee[key]
             if int(out[2]) < len(ps):
                 out[2] = ps[int(out[2])]
+        if out[0].startswith("wrapping_") and out[1:] == ["ensures"]:
+            out.append("value")
         return out
     return comps
 
 
-PATH = re.compile(r"(?<![\w.'-])([a-z]\w*'?)((?:\.[^\s(){}\[\];,.]+)+)")
+PATH = re.compile(r"(?<![\w.'-])([a-zκ]\w*'?)((?:\.[^\s(){}\[\];,.]+)+)")
+LET = re.compile(r"\blet (\w+'?) = ([a-z]\w*'?)((?:\.[^\s(){}\[\];,.]+)*) in\b")
 
 
 def convert_body(text, names, said):
+    """Roots are c and what a let binds to an earlier place of c, which goes, or to c.args."""
+    roots, args = {"c"}, set()
+    for m in LET.finditer(text):
+        name, root, path = m.group(1), m.group(2), [x for x in m.group(3).split(".") if x]
+        rest = [x for x in path if x != "before"]
+        if root in roots and not rest:
+            roots.add(name)
+        elif (root in roots and rest == ["args"]) or (root in args and not rest):
+            args.add(name)
+
+    def argument(comps):
+        m = re.fullmatch(r"t(\d+)", comps[0]) if comps else None
+        if m and comps[0] not in names.params and 0 < int(m.group(1)) <= len(names.params):
+            return [names.params[int(m.group(1)) - 1]] + comps[1:]
+        return comps
+
     def one(m):
         root, path = m.group(1), m.group(2)[1:].split(".")
-        if root in ("goal", "tie"):
+        if root in args:
+            comps = argument([x for x in path if x != "before"])
+        elif root in roots:
+            comps = convert_path(path, names, said)
+            if comps and comps[0] == "args":
+                comps = ["args"] + argument(comps[1:])
+        else:
             return m.group(0)
-        had = "before" in path
-        comps = convert_path(path, names, said)
         return root + "".join("." + c for c in comps)
 
     out = []
     for line in text.split("\n"):
-        code, sep, comment = line, "", ""
+        code, comment = line, ""
         k = re.search(r"(?<!\S)--", line)
         if k:
             code, comment = line[: k.start()], line[k.start() :]
@@ -138,13 +183,10 @@ def convert_body(text, names, said):
     # let l = c in: the new record is flat
     while True:
         m = re.search(r"\blet (\w+'?) = (\w+'?) in[ \n]\s*", text)
-        if not m:
+        if not m or m.group(2) not in roots:
             break
         a, b = m.group(1), m.group(2)
-        rest = text[m.end() :]
-        rest = re.sub(rf"(?<![\w.'-]){re.escape(a)}(?=\.)(?!\.\s)", b, rest)
-        if re.search(rf"(?<![\w.'-]){re.escape(a)}(?![\w'-])", rest):
-            rest = re.sub(rf"(?<![\w.'-]){re.escape(a)}(?![\w'.-])", b, rest)
+        rest = re.sub(rf"(?<![\w.'-]){re.escape(a)}(?![\w'-])", b, text[m.end() :])
         text = text[: m.start()] + rest
     return text
 
@@ -158,10 +200,11 @@ def turn(crate, path, j, said):
     proof = os.path.join(folder, "Proof.antt")
     text = open(proof, encoding="utf8").read()
     names = Names(j)
+    names.params = parameters(crate, path)
     fn = path.replace("/", ".")
     head, uses, blocks = split(text)
     uses = [u for u in uses if ".Statement." not in u and not u.endswith(" as tie")]
-    invs, answers, helpers = [], [], []
+    invs, answers, helpers, placed = [], [], [], {}
     for b in blocks:
         sig = b["lines"][0]
         n = 1
@@ -212,7 +255,7 @@ def turn(crate, path, j, said):
             eq = re.search(r" =(?=\s|$)", body)
             lhs, rhs = body[: eq.start()].split(), body[eq.end() :]
             plain = " ".join(rhs.split())
-            if plain in TRIVIAL or re.fullmatch(r"\((?:omega arith|search rules|refl|tt)(?:, (?:omega arith|search rules|refl|tt))*,?\)", plain.replace("( ", "(").replace(" )", ")").replace(", )", ")")):
+            if not unf and (plain in TRIVIAL or re.fullmatch(r"\((?:omega arith|search rules|refl|tt)(?:, (?:omega arith|search rules|refl|tt))*,?\)", plain.replace("( ", "(").replace(" )", ")").replace(", )", ")"))):
                 continue
             if new is None:
                 said.append(f"look: {fn}: goal {old} is gone; its answer was: {plain[:100]}")
@@ -222,8 +265,12 @@ def turn(crate, path, j, said):
             answers.append((b["comment"], f"pub {new} : goal.{new}\n" + "".join(u + "\n" for u in unf) + " ".join([new] + args) + " =" + rhs))
             continue
         whole = "\n".join(b["lines"])
+        whole = re.sub(r"(\(c : tie\.[^\s)]+)(?: (?:invariant|decreases)-[^\s)]+)+\)", r"\1)", whole)
+        m = re.search(r"\(c : tie\.([^\s)]+)\)", whole)
+        if m and canon(m.group(1)) in names.places:
+            placed[b["name"]] = names.places[canon(m.group(1))]
+            whole = re.sub(r"\(c : tie\.([^\s)]+)\)", lambda m: f"(c : {names.places.get(canon(m.group(1)), m.group(1))})", whole)
         if "tie." in whole:
-            whole = re.sub(r"tie\.(After|At|Then|Else|In)[^\s)]*", lambda m: m.group(0), whole)
             said.append(f"look: {fn}: the helper {b['name']} speaks of a record of the proof")
         whole = convert_body(whole, names, said)
         helpers.append((b["name"], b["comment"], whole))
@@ -243,6 +290,18 @@ def turn(crate, path, j, said):
             if n and n not in low and (word_in(n, inv_text) or any(word_in(n, t2) for n2, _, t2 in helpers if n2 in low)):
                 low.add(n)
                 changed = True
+    # a helper over the record of a place is passed that record
+    if placed:
+        again = re.compile(r"(?<![\w.'-])(" + "|".join(re.escape(k) for k in placed if k) + r") c(?![\w.'-])")
+        done = []
+        for c, t in answers:
+            goal = re.match(r"pub (\S+) :", t).group(1)
+            done.append((c, again.sub(lambda m: f"{m.group(1)} (goal.at.{goal} c).{placed[m.group(1)]}", t)))
+        answers = done
+        for n, c, t in helpers:
+            for m in again.finditer(t):
+                if n in placed and placed[m.group(1)] != placed[n]:
+                    said.append(f"look: {fn}: {n} passes another place to {m.group(1)}")
     ends = []
     if invs:
         out = head + uses + ([f"use {top}.Given as goal"])
@@ -257,7 +316,7 @@ def turn(crate, path, j, said):
         ends.append(("Invariants.antt", "\n".join(out).rstrip() + "\n"))
     rest = [h for h in helpers if h[0] not in low]
     if answers or rest:
-        out = head + uses + ([f"use {top}.Invariants.{{{', '.join(sorted(low))}}}"] if low and invs else []) + [f"use {top}.Goals as goal", ""]
+        out = head + uses + ([f"use {top}.Invariants.{{{', '.join(sorted(low))}}}"] if low and invs else []) + [f"use {top}.Goals as goal"] + ([f"use {top}.Goals.{{{', '.join(sorted(set(placed.values())))}}}"] if placed else []) + [""]
         for n, c, t in rest:
             out += c + [t, ""]
         for c, t in answers:

@@ -3,7 +3,7 @@ ghost use Rattle.std.specs.Prelude.{◌≡◌, ◌+◌, ◌%◌};
 ghost use Rattle.cases.specs.Spelled.{spelled};
 
 // The digits of a number, and how many there are; zeros stand behind them.
-#[derive(Drop)]
+#[derive(Clone, Copy)]
 pub struct Decimal {
     pub bytes: [u8; 5],
     pub length: usize,

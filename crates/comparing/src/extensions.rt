@@ -15,7 +15,7 @@ use hello::{Next, Part, next_extension};
 const TYPES: usize = 65536;
 
 // The extension of the least type from some type on.
-#[derive(Drop)]
+#[derive(Clone, Copy)]
 pub(crate) struct Found {
     pub kind: usize,
     pub data: Part,

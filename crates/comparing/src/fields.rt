@@ -11,7 +11,7 @@ use crate::lines::put_line;
 use hello::{ClientRead, Part, ServerRead, read_client_hello, read_server_hello};
 
 // A hello that was read, client's or server's: where its fields stand in the message.
-#[derive(Drop)]
+#[derive(Clone, Copy)]
 pub(crate) struct Fields {
     pub version: u16,
     pub random: Part,
@@ -22,7 +22,7 @@ pub(crate) struct Fields {
     pub list: usize,
 }
 
-#[derive(Drop)]
+#[derive(Clone, Copy)]
 pub(crate) enum Seen {
     Read(Fields),
     Unread,

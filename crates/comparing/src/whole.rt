@@ -11,7 +11,7 @@ use cases::is_good;
 // No text is longer.
 const LONGEST: usize = 358280;
 
-#[derive(Drop)]
+#[derive(Clone, Copy)]
 pub struct Compared {
     // 0, or 10 where the output has less room than the longest text takes
     pub number: u8,

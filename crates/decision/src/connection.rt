@@ -6,7 +6,7 @@ use refusal::Refusal;
 
 // What a connection keeps from one handshake to the next. A later handshake on it is a renegotiation.
 #[repr(C)]
-#[derive(Drop)]
+#[derive(Clone, Copy)]
 pub struct Connection {
     // a handshake has completed
     pub completed: u8,
@@ -35,7 +35,7 @@ impl Connection {
 }
 
 #[repr(C)]
-#[derive(Drop)]
+#[derive(Clone, Copy)]
 pub struct Switches {
     pub indication_required: u8,
     pub legacy_full: u8,
@@ -44,7 +44,7 @@ pub struct Switches {
 
 // Where the number is not 0, all else is 0.
 #[repr(C)]
-#[derive(Drop)]
+#[derive(Clone, Copy)]
 pub struct Decision {
     pub refusal: Refusal,
     pub resumes: u8,

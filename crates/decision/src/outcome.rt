@@ -13,7 +13,7 @@ use crate::connection::{Decision, Switches};
 use refusal::{Refusal, refuse};
 use sessions::Known;
 
-#[derive(Drop)]
+#[derive(Clone, Copy)]
 pub(crate) enum Reached {
     Forbidden,
     FullEms,

@@ -6,7 +6,7 @@ ghost use Rattle.decision.specs.Steps.{renegotiated_bytes, Replies};
 use crate::connection::Connection;
 
 // The first `length` bytes count.
-#[derive(Drop)]
+#[derive(Clone, Copy)]
 pub(crate) struct Reply {
     pub bytes: [u8; 35],
     pub length: usize,

@@ -8,7 +8,7 @@ use log::{Finished, Log};
 use refusal::Refusal;
 
 #[repr(C)]
-#[derive(Drop)]
+#[derive(Clone, Copy)]
 pub struct Completed {
     pub refusal: Refusal,
     pub connection: Connection,

@@ -8,7 +8,7 @@ use sha256::{Absorbed, Digested, Hash};
 
 // An array crosses the C face in a struct.
 #[repr(C)]
-#[derive(Drop)]
+#[derive(Clone, Copy)]
 pub struct Digest {
     pub bytes: [u8; 32],
 }

@@ -8,7 +8,7 @@ use sha384::{Absorbed384, Digested384, Hash384};
 
 // An array crosses the C face in a struct.
 #[repr(C)]
-#[derive(Drop)]
+#[derive(Clone, Copy)]
 pub struct Digest384 {
     pub bytes: [u8; 48],
 }

@@ -8,7 +8,7 @@ use hello::{ClientHello, ClientRead, Extensions, Part, ServerHello, ServerRead};
 use refusal::Refusal;
 
 #[repr(C)]
-#[derive(Drop)]
+#[derive(Clone, Copy)]
 pub struct ClientReading {
     pub refusal: Refusal,
     // zeros where refused
@@ -16,7 +16,7 @@ pub struct ClientReading {
 }
 
 #[repr(C)]
-#[derive(Drop)]
+#[derive(Clone, Copy)]
 pub struct ServerReading {
     pub refusal: Refusal,
     // zeros where refused

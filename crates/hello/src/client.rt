@@ -14,7 +14,7 @@ use refusal::{Refusal, refuse, refuse_at};
 
 // A ClientHello that was read.
 #[repr(C)]
-#[derive(Drop)]
+#[derive(Clone, Copy)]
 pub struct ClientHello {
     pub version: u16,
     pub random: Part,
@@ -26,7 +26,7 @@ pub struct ClientHello {
     pub extensions: Extensions,
 }
 
-#[derive(Drop)]
+#[derive(Clone, Copy)]
 pub enum ClientRead {
     Read(ClientHello),
     Refused(Refusal),

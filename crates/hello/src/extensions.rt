@@ -7,7 +7,7 @@ use crate::parts::{Extensions, Part, flag};
 use crate::walk::{EMS, RI, Walked, find, others, walk};
 use message::pair;
 
-#[derive(Drop)]
+#[derive(Clone, Copy)]
 pub(crate) enum Block {
     Read(Extensions),
     // the place of the fault

@@ -7,7 +7,7 @@ ghost use Rattle.hello.specs.Cuts.{place_in, Bounded, Cuts, Opens};
 use crate::parts::Part;
 use message::{byte, pair};
 
-#[derive(Drop)]
+#[derive(Clone, Copy)]
 pub(crate) enum Cut {
     Taken(Part),
     // the place of the fault

@@ -7,7 +7,7 @@ use message::pair;
 
 // An extension of a message, and the place of what follows it.
 #[repr(C)]
-#[derive(Drop)]
+#[derive(Clone, Copy)]
 pub struct Next {
     // 0 where no whole extension stands at the place asked; then all else is 0
     pub found: u8,

@@ -3,7 +3,7 @@ ghost use Rattle.seqs.specs.Flag.{bit};
 
 // A part of a message: where it begins, counted from the message's first byte, and how many bytes it has.
 #[repr(C)]
-#[derive(Drop)]
+#[derive(Clone, Copy)]
 pub struct Part {
     pub at: usize,
     pub length: usize,
@@ -11,7 +11,7 @@ pub struct Part {
 
 // What a hello says by its extensions. Flags are 0 or 1.
 #[repr(C)]
-#[derive(Drop)]
+#[derive(Clone, Copy)]
 pub struct Extensions {
     // there is an extension block, which may be empty
     pub block: u8,

@@ -13,7 +13,7 @@ use refusal::{Refusal, refuse, refuse_at};
 
 // A ServerHello that was read.
 #[repr(C)]
-#[derive(Drop)]
+#[derive(Clone, Copy)]
 pub struct ServerHello {
     pub version: u16,
     pub random: Part,
@@ -24,7 +24,7 @@ pub struct ServerHello {
     pub extensions: Extensions,
 }
 
-#[derive(Drop)]
+#[derive(Clone, Copy)]
 pub enum ServerRead {
     Read(ServerHello),
     Refused(Refusal),

@@ -27,7 +27,7 @@ pub fn well_shaped(kind: usize, data: &[u8]) -> bool
     true
 }
 
-#[derive(Drop)]
+#[derive(Clone, Copy)]
 pub(crate) enum Walked {
     Whole,
     // the place of the first fault

@@ -18,7 +18,7 @@ const FINISHED: usize = 20;
 
 const AXLE: u8 = 1;
 
-#[derive(Drop)]
+#[derive(Clone, Copy)]
 pub(crate) struct Fed {
     pub line: Line,
     pub log: Log,

@@ -5,14 +5,14 @@ ghost use Rattle.listing.specs.Texts.{answered, column_of, printed, line_of, Add
 
 use cases::decimal_of;
 
-#[derive(Drop)]
+#[derive(Clone, Copy)]
 pub(crate) struct Line {
     pub bytes: [u8; 16],
     pub length: usize,
 }
 
 // What stands in a column: nothing, printed as a dash; a number; or an answer, a number with its place.
-#[derive(Drop)]
+#[derive(Clone, Copy)]
 pub(crate) enum Column {
     Nothing,
     Number(u8),

@@ -5,7 +5,7 @@ ghost use Rattle.listing.specs.Texts.{line_of, text_of};
 use crate::line::Line;
 
 // 23 bytes of header, and 255 lines of at most 16.
-#[derive(Drop)]
+#[derive(Clone, Copy)]
 pub struct Text {
     pub bytes: [u8; 4103],
     // how many of them count; the others are 0

@@ -21,7 +21,7 @@ use transcript::Transcript;
 
 // What is to be done with a message: the refusal, or number 0, its type, the place of `order` that it leads to, and the hash that was told
 // with it: 1 for SHA-384.
-#[derive(Drop)]
+#[derive(Clone, Copy)]
 pub(crate) struct Turn {
     pub refusal: Refusal,
     pub kind: u8,
@@ -30,7 +30,7 @@ pub(crate) struct Turn {
 }
 
 #[repr(C)]
-#[derive(Drop)]
+#[derive(Clone, Copy)]
 pub struct Log {
     // every accepted message but type 0, and what has entered of one that is between parts
     pub hash: Transcript,

@@ -9,14 +9,14 @@ use refusal::Refusal;
 use sha256::State;
 
 #[repr(C)]
-#[derive(Drop)]
+#[derive(Clone, Copy)]
 pub struct Tagged {
     pub refusal: Refusal,
     pub tag: [u8; 32],
 }
 
 // The hash values after the two blocks of a key.
-#[derive(Drop)]
+#[derive(Clone, Copy)]
 pub(crate) struct Keyed {
     pub(crate) inner: State,
     pub(crate) outer: State,

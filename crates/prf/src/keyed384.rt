@@ -9,14 +9,14 @@ use refusal::Refusal;
 use sha384::State384;
 
 #[repr(C)]
-#[derive(Drop)]
+#[derive(Clone, Copy)]
 pub struct Tagged384 {
     pub refusal: Refusal,
     pub tag: [u8; 48],
 }
 
 // The hash values after the two blocks of a key.
-#[derive(Drop)]
+#[derive(Clone, Copy)]
 pub(crate) struct Keyed384 {
     pub(crate) inner: State384,
     pub(crate) outer: State384,

@@ -12,7 +12,7 @@ use crate::keyed384::Keyed384;
 use refusal::Refusal;
 
 #[repr(C)]
-#[derive(Drop)]
+#[derive(Clone, Copy)]
 pub struct Verified {
     pub refusal: Refusal,
     pub value: [u8; 12],

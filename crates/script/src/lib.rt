@@ -13,7 +13,7 @@ use refusal::{Refusal, refuse};
 use sessions::Table;
 
 // The table after a call, and the answer.
-#[derive(Drop)]
+#[derive(Clone, Copy)]
 struct Stepped {
     table: Table,
     reply: [u8; 70],

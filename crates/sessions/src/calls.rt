@@ -9,7 +9,7 @@ use crate::table::Table;
 use refusal::{Refusal, refuse};
 
 #[repr(C)]
-#[derive(Drop)]
+#[derive(Clone, Copy)]
 pub struct Stored {
     pub refusal: Refusal,
     pub table: Table,
@@ -17,7 +17,7 @@ pub struct Stored {
 
 // The secret found is in the lent output.
 #[repr(C)]
-#[derive(Drop)]
+#[derive(Clone, Copy)]
 pub struct Looked {
     pub refusal: Refusal,
     pub found: u8,
@@ -26,7 +26,7 @@ pub struct Looked {
 }
 
 #[repr(C)]
-#[derive(Drop)]
+#[derive(Clone, Copy)]
 pub struct Withdrawn {
     pub refusal: Refusal,
     pub withdrawn: u8,
@@ -34,27 +34,27 @@ pub struct Withdrawn {
 }
 
 #[repr(C)]
-#[derive(Drop)]
+#[derive(Clone, Copy)]
 pub struct Held {
     pub refusal: Refusal,
     pub count: u8,
 }
 
 #[repr(C)]
-#[derive(Drop)]
+#[derive(Clone, Copy)]
 pub struct Cleared {
     pub refusal: Refusal,
     pub table: Table,
 }
 
 // What a decision weighs of a session, and no secret. Of `ems` 0 is no and everything else is yes.
-#[derive(Drop)]
+#[derive(Clone, Copy)]
 pub struct Weighed {
     pub ems: u8,
     pub suite: u16,
 }
 
-#[derive(Drop)]
+#[derive(Clone, Copy)]
 pub enum Known {
     Nothing,
     Found(Weighed),

@@ -11,14 +11,14 @@ use crate::six;
 
 // The first `held` places count, the others are blank.
 #[repr(C)]
-#[derive(Drop)]
+#[derive(Clone, Copy)]
 pub struct Queue {
     pub rows: [Row; 8],
     pub held: u8,
 }
 
 // A session by its queue and its place there.
-#[derive(Drop)]
+#[derive(Clone, Copy)]
 pub struct Spot {
     pub queue: usize,
     pub place: usize,

@@ -6,7 +6,7 @@ ghost use Rattle.sessions.specs.Keeps.{row_of, no_session, session_of};
 // The identifier is the first `size` bytes; 0 in `ems` is no, everything else yes; of the suite the high byte comes first. It is two
 // bytes and no number, so that a table has no padding.
 #[repr(C)]
-#[derive(Drop)]
+#[derive(Clone, Copy)]
 pub struct Row {
     pub ems: u8,
     pub size: u8,

@@ -9,7 +9,7 @@ use crate::queue::Queue;
 use crate::row::Row;
 
 #[repr(C)]
-#[derive(Drop)]
+#[derive(Clone, Copy)]
 pub struct Table {
     pub queues: [Queue; 6],
 }

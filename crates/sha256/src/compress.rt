@@ -11,7 +11,7 @@ use crate::words::{add, big0, big1, bytes, choice, join, majority, next_word};
 
 // Eight words: the working variables of the rounds, or the hash value. Contracts speak of them as `Value` of specs/.
 #[repr(C)]
-#[derive(Drop)]
+#[derive(Clone, Copy)]
 pub struct State {
     pub a: u32,
     pub b: u32,

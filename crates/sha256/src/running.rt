@@ -11,7 +11,7 @@ use crate::compress::State;
 use refusal::Refusal;
 
 #[repr(C)]
-#[derive(Drop)]
+#[derive(Clone, Copy)]
 pub struct Hash {
     pub state: State,
     // what is left of the message behind its whole blocks: length % 64 bytes, and zeros behind them
@@ -21,14 +21,14 @@ pub struct Hash {
 }
 
 #[repr(C)]
-#[derive(Drop)]
+#[derive(Clone, Copy)]
 pub struct Absorbed {
     pub refusal: Refusal,
     pub hash: Hash,
 }
 
 #[repr(C)]
-#[derive(Drop)]
+#[derive(Clone, Copy)]
 pub struct Digested {
     pub refusal: Refusal,
     pub digest: [u8; 32],

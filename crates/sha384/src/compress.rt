@@ -11,7 +11,7 @@ use crate::words::{add, big0, big1, bytes, choice, join, majority, next_word};
 
 // Eight words: the working variables of the rounds, or the hash value. Contracts speak of them as `Value` of specs/.
 #[repr(C)]
-#[derive(Drop)]
+#[derive(Clone, Copy)]
 pub struct State384 {
     pub a: u64,
     pub b: u64,

@@ -11,7 +11,7 @@ use crate::compress::State384;
 use refusal::Refusal;
 
 #[repr(C)]
-#[derive(Drop)]
+#[derive(Clone, Copy)]
 pub struct Hash384 {
     pub state: State384,
     // what is left of the message behind its whole blocks: length % 128 bytes, and zeros behind them
@@ -21,14 +21,14 @@ pub struct Hash384 {
 }
 
 #[repr(C)]
-#[derive(Drop)]
+#[derive(Clone, Copy)]
 pub struct Absorbed384 {
     pub refusal: Refusal,
     pub hash: Hash384,
 }
 
 #[repr(C)]
-#[derive(Drop)]
+#[derive(Clone, Copy)]
 pub struct Digested384 {
     pub refusal: Refusal,
     pub digest: [u8; 48],

@@ -23,7 +23,7 @@ const SHA256: u8 = 1;
 const SHA384: u8 = 2;
 
 #[repr(C)]
-#[derive(Drop)]
+#[derive(Clone, Copy)]
 pub struct Transcript {
     // one that isn't carried is fresh
     pub sha256: Hash,

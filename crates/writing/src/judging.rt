@@ -8,7 +8,7 @@ use crate::lists::{misshaped, repeated};
 use refusal::{Refusal, refuse};
 
 #[repr(C)]
-#[derive(Drop)]
+#[derive(Clone, Copy)]
 pub struct Written {
     pub refusal: Refusal,
     // how many bytes the message has; 0 where refused

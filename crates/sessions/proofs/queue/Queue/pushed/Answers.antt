@@ -1,0 +1,22 @@
+-- A session is the last.
+-- Assumes nothing.
+use mathlib.Core.Path.{◌∙◌, ap}
+use native.Mathlib.Omega.{arith}
+use lib.ListN.{length}
+use Rattle.sessions.specs.Keeps.{sessions_of}
+use Rattle.sessions.specs.declared.queue.Queue.{Queue}
+use Rattle.sessions.proofs.Laid.{laid_last, laid_length}
+use borrow.Author.Rules.{rules}
+use Rattle.sessions.proofs.queue.Queue.pushed.Goals as goal
+
+pub returns-then-n-ge8 : goal.returns-then-n-ge8
+returns-then-n-ge8 c =
+    λ b s e f h.
+    let n = c.size-n.ensures.0 0 ∙ ap (λ (q : Queue). length (sessions_of 0 q)) e ∙ laid_length 0 b in
+    absurd (omega (arith, n))
+
+pub returns : goal.returns
+returns c =
+    λ b s e f h.
+    let n = c.size-n.ensures.0 0 ∙ ap (λ (q : Queue). length (sessions_of 0 q)) e ∙ laid_length 0 b in
+    rw (n, e, f) (laid_last b s h)

@@ -1,0 +1,11 @@
+-- The blocks hold the first i of the bytes that they are to hold.
+-- Assumes nothing.
+use Rattle.std.proofs.Common.{◌≡◌, ◌-◌, ◌≤◌, length, add-one, arith, length-set}
+use lib.Seq.{paste, paste-zero, paste-suc}
+use Rattle.sha256.proofs.begun.lay.Given as goal
+
+abbrev pub invariant-loop-i : goal.invariant-loop-i
+invariant-loop-i l = (l.i ≤ length l.b) × (length l.blocks ≡ 128) × (l.blocks ≡ paste l.initial.blocks l.at l.b l.i)
+
+abbrev pub decreases-loop-i : goal.decreases-loop-i
+decreases-loop-i l = length l.b - l.i

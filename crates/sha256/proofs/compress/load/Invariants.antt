@@ -1,0 +1,15 @@
+-- The block's own sixteen words.
+-- Assumes nothing.
+use Rattle.std.proofs.Common.{◌≡◌, ◌-◌, ◌≤◌, take, drop, refl, add-one, arith, rules}
+use Rattle.seqs.specs.Tab.{tab}
+use Rattle.seqs.specs.Fill.{Filled, filled_none, filled_more, filled_all}
+use Rattle.seqs.specs.Words.{big, words_of}
+use Rattle.seqs.specs.Sha2.{schedule}
+use Rattle.sha256.proofs.ByteWords.{word_at}
+use Rattle.sha256.proofs.compress.load.Given as goal
+
+abbrev pub invariant-loop-t : goal.invariant-loop-t
+invariant-loop-t l = (l.t ≤ 16) × Filled l.w 16 (words_of big 4 l.t (take 64 (drop l.at l.b))) l.t
+
+abbrev pub decreases-loop-t : goal.decreases-loop-t
+decreases-loop-t l = 16 - l.t

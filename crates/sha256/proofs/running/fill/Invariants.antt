@@ -1,0 +1,11 @@
+-- The tail holds the first i of the bytes that it is to hold.
+-- Assumes nothing.
+use Rattle.std.proofs.Common.{◌≡◌, ◌-◌, ◌<◌, ◌≤◌, length, drop, add-one, arith, length-drop, length-set, get_or-drop}
+use lib.Seq.{paste, paste-zero, paste-suc}
+use Rattle.sha256.proofs.running.fill.Given as goal
+
+abbrev pub invariant-loop-i : goal.invariant-loop-i
+invariant-loop-i l = (l.i ≤ l.n) × (length l.tail ≡ 64) × (l.tail ≡ paste l.initial.tail l.at (drop l.from l.b) l.i)
+
+abbrev pub decreases-loop-i : goal.decreases-loop-i
+decreases-loop-i l = l.n - l.i

@@ -1,0 +1,14 @@
+-- The block holds what waits, the one bit and zeros up to i.
+-- Assumes nothing.
+use Rattle.std.proofs.Common.{◌≡◌, ◌+◌, ◌-◌, ◌<◌, take, set, refl, arith}
+use lib.Seq.{take-set-le}
+use Rattle.seqs.specs.Fill.{Filled, filled_more, filled_all}
+use Rattle.seqs.specs.Taken.{sealed}
+use Rattle.seqs.proofs.Ending.{sealed_more}
+use Rattle.sha256.proofs.running.seal.Given as goal
+
+abbrev pub invariant-loop-i : goal.invariant-loop-i
+invariant-loop-i l = (l.at < l.i) × Filled l.block 64 (sealed l.i l.initial.block l.at) l.i
+
+abbrev pub decreases-loop-i : goal.decreases-loop-i
+decreases-loop-i l = 64 - l.i

@@ -1,0 +1,20 @@
+-- The hash of a whole message, or the refusal.
+-- Assumes nothing.
+use Rattle.std.proofs.Common.{◌≤◌, [], length, sym, ap, ◌∙◌, arith, rules}
+use Rattle.refusal.specs.Table.{refusal_of}
+use Rattle.sha256.specs.Running.{most}
+use Rattle.sha256.specs.Laws.{number_over, number_within}
+use Rattle.sha256.proofs.OneShot.{digested, undigested}
+use Rattle.sha256.proofs.running.sha256.Goals as goal
+
+pub returns-then-message-gt-MOST : goal.returns-then-message-gt-MOST
+returns-then-message-gt-MOST c =
+    let m = c.args.message.now in
+    undigested m c.refuse-refusal.result (c.refuse-refusal.ensures ∙ ap refusal_of (sym (number_over 0 (length m) (omega arith)))) (omega arith)
+
+pub returns : goal.returns
+returns c =
+    let m = c.args.message.now in
+    let w : length m ≤ most = omega arith in
+    digested m c.refuse-refusal-2.result (c.refuse-refusal-2.ensures ∙ ap refusal_of (sym (number_within 0 (length m) (omega arith)))) c.digest-digest.result w
+    (c.digest-digest.ensures m (c.more-h.ensures.runs [] c.fresh-h.ensures (omega arith)))

@@ -1,0 +1,99 @@
+-- What is taken goes behind what waits: no block is full, or the tail is filled up and is the first block, and the others lie in the new bytes.
+-- Assumes nothing.
+use Rattle.std.proofs.Common.{◌≡◌, ℕ, suc, ◌+◌, ◌-◌, ◌*◌, ◌/◌, ◌%◌, ◌^◌, ◌<◌, ◌≤◌, List, length, take, drop, replicate, ap, ◌∙◌, mod-eq_of_lt, arith, length-append, length-take-le, rules}
+use lib.Seq.{paste}
+use Rattle.seqs.proofs.Blocks.{after_none, after_more}
+use Rattle.seqs.proofs.Taking.{holds_more, left_over, short_tail, first_block}
+use Rattle.sha384.specs.Layout.{value_of}
+use Rattle.sha384.specs.Constants.{initial}
+use Rattle.sha384.specs.Compress.{step}
+use Rattle.sha384.specs.Sha384.{hashed}
+use Rattle.sha384.specs.Running.{Running, most}
+use Rattle.sha384.proofs.Counting.{counts_completed}
+use Rattle.sha384.proofs.running.Hash384.more.Goals as goal
+use Rattle.sha384.proofs.running.Hash384.more.Goals.{After-shared_slice_known-1, After-wrapping_add_u64, Start}
+
+-- known at the entry
+tail_long : (c : Start) → length c.args.self.tail ≡ 128
+tail_long c = search rules
+
+bytes_long : (c : After-shared_slice_known-1) → length c.args.bytes.now < 2 ^ 63
+bytes_long c = omega arith
+
+-- the sum does not wrap where there is room
+counted : (c : After-wrapping_add_u64) (m : List ℕ) → Running c.args.self m
+    → length m + length c.args.bytes.now ≤ most
+    → c.wrapping_add_u64.result ≡ c.args.self.length + length c.args.bytes.now
+counted c m h w = c.wrapping_add_u64.ensures.value ∙ mod-eq_of_lt (omega (arith, h.holds.counted))
+
+pub returns-then-n-at : goal.returns-then-n-at
+returns-then-n-at c =
+    let s = c.args.self in
+    let b = c.args.bytes.now in
+    let at = s.length % 128 in
+    let g : length b < 128 - at = omega (arith, c.if-n-at.true) in
+    record {
+      runs =
+          λ m h w.
+          let e : at ≡ length m % 128 = ap (λ (i : ℕ). i % 128) h.holds.counted in
+          record {
+            holds =
+                holds_more 128 (omega arith) step initial m b h.holds at 0 (at + length b) e (counted (goal.at.returns-then-n-at c).After-wrapping_add_u64 m h w)
+                (omega arith)
+                (omega arith)
+                (after_none 128 step _ _)
+                (c.fill.ensures ∙ short_tail 128 (omega arith) m b at h.holds.waits e (omega arith));
+            bounded = simp length-append (omega arith);
+          };
+      counts = counts_completed b (omega arith);
+    }
+
+pub loop-i-init : goal.loop-i-init
+loop-i-init c =
+    let at = c.args.self.length % 128 in
+    let z : (128 - at - (128 - at)) / 128 ≡ 0 = omega arith in
+    (omega arith, omega arith, omega arith, rw z (after_none 128 step _ _), omega arith)
+
+pub overflow_add-count : goal.overflow_add-count
+overflow_add-count c = omega (arith, c.loop-i.invariant, bytes_long (goal.at.overflow_add-count c).After-shared_slice_known-1)
+
+pub overflow_add-i : goal.overflow_add-i
+overflow_add-i c = omega (arith, c.loop-i.invariant, bytes_long (goal.at.overflow_add-i c).After-shared_slice_known-1)
+
+pub loop-i-preserved : goal.loop-i-preserved
+loop-i-preserved c =
+    let a = c.args in
+    let b = a.bytes.now in
+    let from = 128 - a.self.length % 128 in
+    let n : (c.loop-i.i + 128 - from) / 128 ≡ suc ((c.loop-i.i - from) / 128) = omega arith in
+    (omega arith, omega arith, omega arith, rw (n, c.compress-state-in-loop-i.ensures, c.loop-i.invariant.3) (after_more 128 step _ b from _ c.loop-i.i (omega arith)), omega arith)
+
+pub returns : goal.returns
+returns c =
+    let s = c.args.self in
+    let b = c.args.bytes.now in
+    let at = s.length % 128 in
+    let i = c.loop-i.i in
+    let t = tail_long (goal.at.returns c).Start in
+    let j = (i - (128 - at)) / 128 in
+    let left = length b - i in
+    let g : 128 - at ≤ length b = c.if-n-at.false in
+    let y : i ≡ length b - left = omega (arith, c.loop-i.invariant.1) in
+    let p : length (take at s.tail) ≡ at = length-take-le at s.tail (omega arith) in
+    let u : at + length b ≡ 128 * suc j + left = omega arith in
+    let f : c.fill-3.new.tail ≡ paste (replicate 128 0) 0 (drop i b) left = c.fill-3.ensures in
+    record {
+      runs =
+          λ m h w.
+          let e : at ≡ length m % 128 = ap (λ (x : ℕ). x % 128) h.holds.counted in
+          record {
+            holds =
+                holds_more 128 (omega arith) step initial m b h.holds at (suc j) left e (counted (goal.at.returns c).After-wrapping_add_u64 m h w)
+                (omega arith)
+                (omega arith)
+                (first_block 128 (omega arith) step initial _ _ _ s.tail b at j t (omega arith) (omega arith) (rw (← c.fill-2.ensures) c.compress-state.ensures) c.loop-i.invariant.3)
+                (f ∙ ap (λ (x : ℕ). paste (replicate 128 0) 0 (drop x b) left) y ∙ left_over 128 (take at s.tail) b (suc j) left (ap (λ (x : ℕ). x + length b) p ∙ u) (omega arith));
+            bounded = simp length-append (omega arith);
+          };
+      counts = counts_completed b (omega (arith, c.loop-i.invariant.4));
+    }

@@ -1,0 +1,10 @@
+-- `sha384::words::small1` is what its document says, from what the calls ensure.
+-- Assumes nothing.
+use Rattle.std.proofs.Common.{refl, ap₂, rules}
+use lib.Bits.{bit_xor}
+use Rattle.sha384.specs.Functions.{σ1}
+use Rattle.sha384.proofs.words.small1.Goals as goal
+
+pub returns : goal.returns
+unfolding σ1
+returns c = ap₂ bit_xor (ap₂ bit_xor c.rotr.ensures c.rotr-2.ensures) refl
