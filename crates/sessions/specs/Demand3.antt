@@ -1,7 +1,7 @@
 -- The tender's third condition, as one statement over every list of calls. The proofs are proofs/Demand3.antt and, that
 -- there is a run for every list, proofs/Total.antt.
 -- Assumes nothing.
-use Rattle.std.specs.Prelude.{◌≡◌, Bool, List, [], ◌∷◌, ◌⊎◌, ℕ, ◌≤◌, ◌<◌, length, take}
+use Rattle.std.specs.Prelude.{◌≡◌, List, [], ◌∷◌, ◌⊎◌, ℕ, ◌≤◌, ◌<◌, length, take}
 use Rattle.std.proofs.Math.Option.{Option, none, some}
 use Rattle.seqs.specs.Flag.{yes}
 use Rattle.seqs.specs.Pick.{pick}

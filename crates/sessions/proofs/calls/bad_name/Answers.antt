@@ -2,7 +2,6 @@
 -- Assumes nothing.
 use mathlib.Core.Path.{sym, ◌∙◌}
 use Rattle.sessions.proofs.Numbers.{name_axle_bad, name_empty, name_long, name_good}
-use borrow.Author.Rules.{rules}
 use Rattle.sessions.proofs.calls.bad_name.Goals as goal
 
 pub returns-then-bad_axle : goal.returns-then-bad_axle

@@ -2,7 +2,6 @@
 -- Assumes nothing.
 use mathlib.Core.Path.{sym, ◌∙◌}
 use Rattle.sessions.proofs.Numbers.{store_11, store_10, store_0}
-use borrow.Author.Rules.{rules}
 use Rattle.sessions.proofs.calls.store_number.Goals as goal
 
 pub returns-then-bad_name : goal.returns-then-bad_name

@@ -2,7 +2,6 @@
 -- Assumes nothing.
 use mathlib.Core.Path.{sym, ◌∙◌}
 use Rattle.sessions.proofs.Numbers.{withdraw_11, withdraw_0}
-use borrow.Author.Rules.{rules}
 use Rattle.sessions.proofs.calls.withdraw_number.Goals as goal
 
 pub returns-then-bad_name : goal.returns-then-bad_name

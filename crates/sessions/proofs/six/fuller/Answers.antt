@@ -5,7 +5,6 @@ use Rattle.sessions.proofs.Queues.{six_read}
 use Prim.Native.Nat.{suc}
 use Rattle.sessions.specs.Book.{holds}
 use Rattle.sessions.proofs.Ways.{fuller_first, fuller_second}
-use borrow.Author.Rules.{rules}
 use Rattle.sessions.proofs.six.fuller.Goals as goal
 
 pub returns-then-n-a : goal.returns-then-n-a

@@ -3,7 +3,6 @@
 use mathlib.Core.Path.{◌∙◌, ap}
 use Prim.Native.Nat.{ℕ}
 use Rattle.sessions.specs.Book.{fuller, fullest}
-use borrow.Author.Rules.{rules}
 use Rattle.sessions.proofs.six.fullest.Goals as goal
 
 pub returns : goal.returns

@@ -5,7 +5,6 @@ use lib.ListN.{replicate}
 use Rattle.sessions.specs.Keeps.{laid}
 use Rattle.sessions.specs.declared.row.Row.{Row}
 use Rattle.sessions.specs.declared.queue.Queue.{Queue}
-use borrow.Author.Rules.{rules}
 use Rattle.sessions.proofs.queue.Queue.blank.Goals as goal
 
 pub returns : goal.returns

@@ -1,16 +1,14 @@
 -- The first row with the name.
 -- Assumes nothing.
-use mathlib.Core.Path.{◌≡◌, sym, ◌∙◌}
+use mathlib.Core.Path.{sym, ◌∙◌}
 use mathlib.Core.Bool.{true, false}
-use Prim.Native.Nat.{ℕ, ◌+◌, ◌-◌, ◌≤◌, ◌<◌}
+use Prim.Native.Nat.{◌<◌}
 use native.Mathlib.Nat.{zero-add}
 use native.Mathlib.Omega.{arith}
-use lib.ListN.{length, drop}
+use lib.ListN.{length}
 use Rattle.sessions.specs.Keeps.{session_of, sessions_of}
-use Rattle.sessions.specs.Places.{place}
 use Rattle.sessions.specs.Book.{is_named}
 use Rattle.sessions.proofs.Places.{no_row, meets_at, place_here, place_next, place_end}
-use borrow.Author.Rules.{rules}
 use Rattle.sessions.proofs.queue.Queue.find.Goals as goal
 
 pub loop-i-init : goal.loop-i-init

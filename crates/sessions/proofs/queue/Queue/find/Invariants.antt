@@ -1,16 +1,11 @@
 -- The first row with the name.
 -- Assumes nothing.
-use mathlib.Core.Path.{◌≡◌, sym, ◌∙◌}
-use mathlib.Core.Bool.{true, false}
-use Prim.Native.Nat.{ℕ, ◌+◌, ◌-◌, ◌≤◌, ◌<◌}
-use native.Mathlib.Nat.{zero-add}
-use native.Mathlib.Omega.{arith}
-use lib.ListN.{length, drop}
-use Rattle.sessions.specs.Keeps.{session_of, sessions_of}
+use mathlib.Core.Path.{◌≡◌}
+use Prim.Native.Nat.{ℕ, ◌+◌, ◌-◌, ◌≤◌}
+use lib.ListN.{drop}
+use Rattle.sessions.specs.Keeps.{sessions_of}
 use Rattle.sessions.specs.Places.{place}
 use Rattle.sessions.specs.Book.{is_named}
-use Rattle.sessions.proofs.Places.{no_row, meets_at, place_here, place_next, place_end}
-use borrow.Author.Rules.{rules}
 use Rattle.sessions.proofs.queue.Queue.find.Given as goal
 
 abbrev pub invariant-loop-i : goal.invariant-loop-i

@@ -10,7 +10,6 @@ use Rattle.sessions.specs.Keeps.{session_of, sessions_of}
 use Rattle.sessions.proofs.Books.{oldest_meets}
 use Rattle.sessions.proofs.Fields.{named_in, none_in}
 use Rattle.sessions.proofs.Places.{no_row, session_at, place_oldest, place_none}
-use borrow.Author.Rules.{rules}
 use Rattle.sessions.proofs.queue.Queue.named.Goals as goal
 
 pub returns-then-size-i : goal.returns-then-size-i

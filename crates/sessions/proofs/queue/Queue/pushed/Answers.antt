@@ -6,7 +6,6 @@ use lib.ListN.{length}
 use Rattle.sessions.specs.Keeps.{sessions_of}
 use Rattle.sessions.specs.declared.queue.Queue.{Queue}
 use Rattle.sessions.proofs.Laid.{laid_last, laid_length}
-use borrow.Author.Rules.{rules}
 use Rattle.sessions.proofs.queue.Queue.pushed.Goals as goal
 
 pub returns-then-n-ge8 : goal.returns-then-n-ge8

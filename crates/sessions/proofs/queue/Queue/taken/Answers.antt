@@ -4,7 +4,6 @@ use lib.ListN.{length}
 use Rattle.sessions.specs.Keeps.{sessions_of}
 use native.Mathlib.Omega.{arith}
 use borrow.Author.Tests.{lt-ltb, le-ltb}
-use borrow.Author.Rules.{rules}
 use Rattle.sessions.proofs.queue.Queue.taken.Goals as goal
 
 pub returns-then-i-size : goal.returns-then-i-size

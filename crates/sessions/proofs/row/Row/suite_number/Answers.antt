@@ -1,7 +1,6 @@
 -- Two bytes, the first the high one.
 -- Assumes nothing.
 use Rattle.sessions.specs.Keeps.{session_of}
-use borrow.Author.Rules.{rules}
 use Rattle.sessions.proofs.row.Row.suite_number.Goals as goal
 
 pub returns : goal.returns

@@ -1,7 +1,6 @@
 -- Six queues without a session.
 -- Assumes nothing.
 use Rattle.sessions.specs.Keeps.{part_of, table_of}
-use borrow.Author.Rules.{rules}
 use Rattle.sessions.proofs.table.Table.blank.Goals as goal
 
 pub returns : goal.returns

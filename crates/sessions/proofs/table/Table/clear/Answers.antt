@@ -1,7 +1,6 @@
 -- An empty table, whatever it was.
 -- Assumes nothing.
 use Rattle.sessions.proofs.Kept.{keeps_empty}
-use borrow.Author.Rules.{rules}
 use Rattle.sessions.proofs.table.Table.clear.Goals as goal
 
 pub returns : goal.returns

@@ -1,7 +1,6 @@
 -- It begins empty.
 -- Assumes nothing.
 use Rattle.sessions.proofs.Kept.{keeps_empty}
-use borrow.Author.Rules.{rules}
 use Rattle.sessions.proofs.table.Table.fresh.Goals as goal
 
 pub returns : goal.returns

@@ -1,12 +1,11 @@
 -- The number stored, unless the axle is refused.
 -- Assumes nothing.
 use mathlib.Core.Path.{sym, ◌∙◌}
-use mathlib.Core.Logic.{⊎_elim}
 use native.Mathlib.Omega.{arith}
 use Rattle.sessions.proofs.Kept.{counts_11, counts_0}
 use Rattle.sessions.proofs.Sound.{good_axle}
-use borrow.Author.Rules.{rules}
 use Rattle.sessions.proofs.table.Table.held.Goals as goal
+use Rattle.sessions.proofs.table.Table.held.Goals.{then-number-lt8, else-number-lt8}
 
 pub returns-then-bad_axle : goal.returns-then-bad_axle
 returns-then-bad_axle c = let a = c.args in counts_11 a.self a.axle c.refuse.result (sym c.bad_axle.ensures ∙ c.if-bad_axle.true) c.refuse.ensures
@@ -21,4 +20,4 @@ returns c =
     let g = good_axle a.axle good in
     let n = c.number-number.ensures in
     counts_0 a.self a.axle c.refuse-2.result c.if-number-lt8.count g.0 g.1 good c.refuse-2.ensures
-    (λ m. ⊎_elim (λ w. w.1 ∙ n) (λ w. omega (arith, w.1, w.0.left, n, m)) c.if-number-lt8.branch)
+    (λ m. elim c.if-number-lt8.branch [ then-number-lt8 w ↦ w.count-is ∙ n | else-number-lt8 w ↦ omega (arith, w.count-is, w.if-number-lt8.false, n, m) ])

@@ -3,7 +3,6 @@
 use mathlib.Core.Path.{sym, ◌∙◌}
 use Rattle.sessions.proofs.Kept.{knows_11, knows_none, knows_found}
 use Rattle.sessions.proofs.Sound.{good_name}
-use borrow.Author.Rules.{rules}
 use Rattle.sessions.proofs.table.Table.known.Goals as goal
 
 pub returns-then-bad_name : goal.returns-then-bad_name

@@ -3,7 +3,6 @@
 use mathlib.Core.Path.{sym, ◌∙◌}
 use Rattle.sessions.proofs.Kept.{looks_11, looks_none, looks_10, looks_0}
 use Rattle.sessions.proofs.Sound.{good_name}
-use borrow.Author.Rules.{rules}
 use Rattle.sessions.proofs.table.Table.look_up.Goals as goal
 
 pub returns-then-bad_name : goal.returns-then-bad_name

@@ -1,7 +1,6 @@
 -- One session goes, if any, and the new one is written last.
 -- Assumes nothing.
 use mathlib.Core.Path.{◌≡◌, refl, ◌∙◌, ap}
-use mathlib.Core.Logic.{⊎_elim}
 use Prim.Native.Nat.{suc, ◌-◌, ◌<◌}
 use lib.Dec.{leb}
 use Rattle.sessions.specs.Book.{Book, struck}
@@ -10,8 +9,8 @@ use Rattle.sessions.specs.declared.table.Table.{Table}
 use Rattle.sessions.proofs.Kept.{stores_refused, which_goes, one_goes, none_goes, stores_done, stored_formed}
 use Rattle.sessions.proofs.Queues.{no_queue}
 use native.Mathlib.Omega.{arith}
-use borrow.Author.Rules.{rules}
 use Rattle.sessions.proofs.table.Table.store.Goals as goal
+use Rattle.sessions.proofs.table.Table.store.Goals.{then-goes-numbers, else-goes-numbers}
 
 pub overflow_sub-own : goal.overflow_sub-own
 overflow_sub-own c =
@@ -69,10 +68,10 @@ returns-after-goes-numbers c =
     let t = c.if-goes-numbers.table in
     let left : (b : Book) → Keeps a.self b → t.queues ≡ six (λ x. laid (part_of x (struck (suc own) i b))) =
     λ b k.
-    ⊎_elim
-    (λ w. ap (λ (x : Table). x.queues) w.3 ∙ one_goes a.self i own v.result.queue v.result.place v.ensures.0 goes no_queue w.2.result w.2.ensures b k)
-    (λ w. ap (λ (x : Table). x.queues) w.1 ∙ none_goes a.self i own v.result.queue v.result.place v.ensures.0 goes numbers.result numbers.ensures w.0.left b k)
-    c.if-goes-numbers.branch in
+    elim c.if-goes-numbers.branch [
+      | then-goes-numbers w ↦ ap (λ (x : Table). x.queues) w.table-is ∙ one_goes a.self i own v.result.queue v.result.place v.ensures.0 goes no_queue w.without.result w.without.ensures b k
+      | else-goes-numbers w ↦ ap (λ (x : Table). x.queues) w.table-is ∙ none_goes a.self i own v.result.queue v.result.place v.ensures.0 goes numbers.result numbers.ensures w.if-goes-numbers.false b k
+    ] in
     stores_done a.self (record { axle = a.axle; identifier = a.identifier.now; ems = a.ems; suite = a.suite; secret = a.secret.now }) c.store_number-number.result c.refuse-refusal.result (c.store_number-number.ensures a.ems a.suite) c.refuse-refusal.ensures
     own no_queue (omega (arith, f.axle_from)) own-six t left c.of-row.result (c.of-row.ensures a.axle) c.pushed.result c.pushed.ensures c.if-number-eq0.true
 

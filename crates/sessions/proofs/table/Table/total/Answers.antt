@@ -5,7 +5,6 @@ use native.Mathlib.Omega.{arith}
 use lib.ListN.{length}
 use Rattle.sessions.proofs.Parts.{part_six}
 use Rattle.sessions.proofs.Queues.{no_queue, sessions_at}
-use borrow.Author.Rules.{rules}
 use Rattle.sessions.proofs.table.Table.total.Goals as goal
 
 pub returns : goal.returns

@@ -6,7 +6,6 @@ use Rattle.sessions.proofs.Kept.{withdraws_refused, withdraws_done, withdraws_no
 use Rattle.sessions.proofs.Queues.{no_queue}
 use Rattle.sessions.proofs.Sound.{good_name}
 use native.Mathlib.Omega.{arith}
-use borrow.Author.Rules.{rules}
 use Rattle.sessions.proofs.table.Table.withdraw.Goals as goal
 use Rattle.sessions.proofs.table.Table.withdraw.Goals.{Then-number-eq0}
 
