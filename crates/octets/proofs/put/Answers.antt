@@ -1,7 +1,6 @@
 -- `octets::put` goes by one test, as `put_list` and `put_number` do.
 -- Assumes nothing.
 use borrow.Author.Tests.{lt-leb, le-leb}
-use borrow.Author.Rules.{rules}
 use Rattle.octets.proofs.put.Goals as goal
 
 pub returns-then-out-src : goal.returns-then-out-src

@@ -1,11 +1,11 @@
 -- `octets::same` looks at every byte: until i, the strings are the same exactly where the difference is 0.
 -- Assumes nothing.
-use mathlib.Core.Path.{◌≡◌, refl, sym, ◌∙◌, ap}
+use mathlib.Core.Path.{sym, ◌∙◌, ap}
 use mathlib.Core.Bool.{Bool, false}
-use Prim.Native.Nat.{◌+◌, ◌-◌, ◌≤◌}
+use Prim.Native.Nat.{◌+◌}
 use native.Mathlib.Omega.{arith}
 use lib.Dec.{eqb}
-use lib.ListN.{length, drop, get_or}
+use lib.ListN.{drop, get_or}
 use Rattle.seqs.specs.Pick.{pick}
 use Rattle.octets.specs.Same.{same}
 use Rattle.octets.proofs.Difference.{difference_more, same_other_length, same_end, same_next, pick_test}

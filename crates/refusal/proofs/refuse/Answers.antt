@@ -1,6 +1,5 @@
 -- No place is place 0.
 -- Assumes nothing.
-use borrow.Author.Rules.{rules}
 use Rattle.refusal.specs.Table.{refusal_of}
 use Rattle.refusal.proofs.refuse.Goals as goal
 

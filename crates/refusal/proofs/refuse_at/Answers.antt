@@ -1,7 +1,6 @@
 -- `refuse_at` answers the row of the table: each arm knows its number, and the last that it is none of those above.
 -- Assumes nothing.
 use mathlib.Core.Path.{refl, ◌∙◌}
-use borrow.Author.Rules.{rules}
 use Rattle.refusal.proofs.Rows.{at_row, no_alert}
 use Rattle.refusal.proofs.refuse_at.Goals as goal
 

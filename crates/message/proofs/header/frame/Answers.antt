@@ -5,7 +5,6 @@ use native.Mathlib.Omega.{arith}
 use Rattle.message.specs.Numbers.{triple_at, byte_at}
 use Rattle.message.specs.declared.header.Framed.TheVariants.{Refused}
 use Rattle.message.proofs.Frames.{framed_long, framed_short, framed_other, framed_whole}
-use borrow.Author.Rules.{rules}
 use Rattle.message.proofs.header.frame.Goals as goal
 
 pub returns-then-message-gt-LONGEST : goal.returns-then-message-gt-LONGEST

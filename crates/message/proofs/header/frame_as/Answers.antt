@@ -4,7 +4,6 @@ use mathlib.Core.Path.{sym, ◌∙◌, ap}
 use native.Mathlib.Omega.{arith}
 use Rattle.message.specs.declared.header.Framed.TheVariants.{Refused}
 use Rattle.message.proofs.Frames.{as_long, as_other, as_framed}
-use borrow.Author.Rules.{rules}
 use Rattle.message.proofs.header.frame_as.Goals as goal
 
 pub returns-then-message-gt-LONGEST : goal.returns-then-message-gt-LONGEST

@@ -4,7 +4,6 @@ use mathlib.Core.Path.{refl, sym}
 use lib.ListN.{get_or-eq_default}
 use Rattle.message.specs.Numbers.{byte_at}
 use native.Mathlib.Omega.{arith}
-use borrow.Author.Rules.{rules}
 use Rattle.message.proofs.numbers.byte.Goals as goal
 
 pub returns-then-bytes-at : goal.returns-then-bytes-at

@@ -4,7 +4,6 @@ use native.Mathlib.Omega.{arith}
 use Prim.Native.Nat.{◌+◌}
 use lib.ListN.{get_or-eq_default}
 use Rattle.message.specs.Numbers.{pair_at, byte_at}
-use borrow.Author.Rules.{rules}
 use Rattle.message.proofs.numbers.pair.Goals as goal
 
 pub returns-then-bytes-at : goal.returns-then-bytes-at

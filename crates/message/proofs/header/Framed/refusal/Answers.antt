@@ -2,7 +2,6 @@
 -- Assumes nothing.
 use mathlib.Core.Path.{sym, ap, ◌∙◌}
 use Rattle.message.specs.Frame.{refusal_in}
-use borrow.Author.Rules.{rules}
 use Rattle.message.proofs.header.Framed.refusal.Goals as goal
 
 pub returns-in-Whole : goal.returns-in-Whole
