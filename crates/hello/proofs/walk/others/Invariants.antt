@@ -1,0 +1,15 @@
+-- A type that is not known here.
+-- Assumes nothing.
+use mathlib.Core.Path.{◌≡◌}
+use mathlib.Core.Bool.{true}
+use Prim.Native.Nat.{◌-◌, ◌≤◌}
+use lib.ListN.{length}
+use Rattle.hello.specs.Cuts.{well_formed_at, list_at}
+use Rattle.hello.specs.Extensions.{others_of}
+use Rattle.hello.proofs.walk.others.Given as goal
+
+abbrev pub invariant-loop-i : goal.invariant-loop-i
+invariant-loop-i l = (l.i ≤ length l.message) × (well_formed_at l.message l.i ≡ true) × (others_of (list_at l.message l.at) ≡ others_of (list_at l.message l.i))
+
+abbrev pub decreases-loop-i : goal.decreases-loop-i
+decreases-loop-i l = length l.message - l.i
