@@ -1,11 +1,8 @@
 -- The block's own sixteen words.
 -- Assumes nothing.
-use Rattle.std.proofs.Common.{◌≡◌, ◌-◌, ◌≤◌, take, drop, refl, add-one, arith, rules}
-use Rattle.seqs.specs.Tab.{tab}
-use Rattle.seqs.specs.Fill.{Filled, filled_none, filled_more, filled_all}
+use Rattle.std.proofs.Common.{◌-◌, ◌≤◌, take, drop}
+use Rattle.seqs.specs.Fill.{Filled}
 use Rattle.seqs.specs.Words.{big, words_of}
-use Rattle.seqs.specs.Sha2.{schedule}
-use Rattle.sha256.proofs.ByteWords.{word_at}
 use Rattle.sha256.proofs.compress.load.Given as goal
 
 abbrev pub invariant-loop-t : goal.invariant-loop-t

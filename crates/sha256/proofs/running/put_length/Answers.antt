@@ -1,7 +1,6 @@
 -- Eight stores are the number in 8 bytes.
 -- Assumes nothing.
 use Rattle.sha256.proofs.ByteWords.{length_put}
-use Rattle.std.proofs.Common.{rules}
 use Rattle.sha256.proofs.running.put_length.Goals as goal
 
 pub returns : goal.returns

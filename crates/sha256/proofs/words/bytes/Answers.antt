@@ -1,9 +1,9 @@
 -- `sha256::words::bytes` is the bytes of the words, in their order: four stores a turn.
 -- Assumes nothing.
-use Rattle.std.proofs.Common.{◌≡◌, ◌-◌, ◌*◌, length, get_or, take, refl, add-one, arith, take_all, rules}
+use Rattle.std.proofs.Common.{◌≡◌, ◌*◌, length, get_or, refl, add-one, arith, take_all, rules}
 use native.Mathlib.Numerals.{add-two, add-three}
-use Rattle.seqs.specs.Fill.{Filled, filled_none, filled_run, filled_all}
-use Rattle.seqs.specs.Words.{big, bytes_of}
+use Rattle.seqs.specs.Fill.{filled_none, filled_run, filled_all}
+use Rattle.seqs.specs.Words.{bytes_of}
 use Rattle.seqs.proofs.Words.{four, four_more}
 use Rattle.sha256.proofs.words.bytes.Goals as goal
 

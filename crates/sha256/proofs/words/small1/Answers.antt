@@ -1,7 +1,6 @@
 -- `sha256::words::small1` is what its document says, from what the calls ensure.
 -- Assumes nothing.
 use Rattle.sha256.specs.Functions.{σ1}
-use Rattle.std.proofs.Common.{rules}
 use Rattle.sha256.proofs.words.small1.Goals as goal
 
 pub returns : goal.returns

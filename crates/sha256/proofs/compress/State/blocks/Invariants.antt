@@ -1,10 +1,8 @@
 -- The whole blocks one after the other, each where it lies, and each counted.
 -- Assumes nothing.
-use Rattle.std.proofs.Common.{◌≡◌, suc, ◌+◌, ◌-◌, ◌/◌, ◌%◌, ◌≤◌, length, drop, arith, rules}
+use Rattle.std.proofs.Common.{◌≡◌, ◌+◌, ◌-◌, ◌/◌, ◌%◌, ◌≤◌, length, drop}
 use Rattle.sha256.specs.Sha256.{hashed}
-use Rattle.seqs.proofs.Blocks.{after_none, after_more}
 use Rattle.sha256.specs.Layout.{value_of}
-use Rattle.sha256.specs.Compress.{step}
 use Rattle.sha256.proofs.compress.State.blocks.Given as goal
 
 abbrev pub invariant-loop-at : goal.invariant-loop-at

@@ -1,6 +1,6 @@
 -- The running hash that the block begins, with three pieces more.
 -- Assumes nothing.
-use Rattle.std.proofs.Common.{◌++◌, ap, ◌∙◌, append_assoc, arith, length-append, rules}
+use Rattle.std.proofs.Common.{◌++◌, ap, ◌∙◌, append_assoc, arith, length-append}
 use Rattle.sha256.specs.Sha256.{sha256}
 use Rattle.sha256.proofs.FirstBlock.{begun_runs}
 use Rattle.sha256.proofs.compress.State.ended.Goals as goal

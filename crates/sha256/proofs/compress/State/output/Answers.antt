@@ -1,7 +1,6 @@
 -- The digest is the bytes of the eight words.
 -- Assumes nothing.
 use Rattle.sha256.specs.Compress.{output}
-use Rattle.std.proofs.Common.{rules}
 use Rattle.sha256.proofs.compress.State.output.Goals as goal
 
 pub returns : goal.returns

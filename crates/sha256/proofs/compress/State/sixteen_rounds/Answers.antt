@@ -1,6 +1,6 @@
 -- Each round of a turn finds its word in the ring and its constant among the turn's.
 -- Assumes nothing.
-use Rattle.std.proofs.Common.{◌≡◌, ℕ, ◌+◌, ◌*◌, ◌≤◌, refl, ap, ◌∙◌, arith, rules}
+use Rattle.std.proofs.Common.{◌≡◌, ℕ, ◌+◌, ◌*◌, ◌≤◌, refl, ap, ◌∙◌, arith}
 use Rattle.sha256.specs.Layout.{value_of}
 use Rattle.sha256.specs.Compress.{parameters, schedule, rounds}
 use Rattle.seqs.proofs.Rolling.{round_more}
