@@ -33,8 +33,9 @@ def parameters(crate, path):
                 a = a.strip()
                 if a:
                     names.append("self" if a.replace("&", "").replace("mut ", "").strip() == "self" else a.split(":")[0].replace("mut ", "").strip())
-            return names
-    return []
+            clauses = re.findall(r"\brequires (\w+) \{", t[m.end() :].split("\n{\n")[0].split("\n    {\n")[0])
+            return names, clauses
+    return [], []
 
 
 def canon(name):
@@ -131,6 +132,11 @@ def convert_path(path, names, said):
     if not comps:
         return comps
     key = canon(comps[0]).replace("-", "")
+    if key not in names.steps and comps[0].endswith("_lem"):
+        comps[0] = comps[0][:-4]
+        key = canon(comps[0]).replace("-", "")
+    if comps[0] == "requires" and len(comps) > 1 and comps[1].isdigit() and int(comps[1]) < len(names.clauses):
+        return ["requires", names.clauses[int(comps[1])]] + comps[2:]
     if comps[0] == "args":
         return comps
     # an arm of a match: match.keys1, match.some.x ..
@@ -166,6 +172,8 @@ def convert_body(text, names, said):
             steps[name] = names.callee[canon(rest[0]).replace("-", "")]
 
     def argument(comps):
+        if comps and comps[0] not in names.params and comps[0].replace("-", "_").replace("_lem", "") in names.params:
+            return [comps[0].replace("-", "_").replace("_lem", "")] + comps[1:]
         m = re.fullmatch(r"t(\d+)", comps[0]) if comps else None
         if m and comps[0] not in names.params and 0 < int(m.group(1)) <= len(names.params):
             return [names.params[int(m.group(1)) - 1]] + comps[1:]
@@ -193,9 +201,6 @@ def convert_body(text, names, said):
             code, comment = line[: k.start()], line[k.start() :]
         out.append(PATH.sub(one, code) + comment)
     text = "\n".join(out)
-    # a test of `!x` speaks of x itself now
-    text = re.sub(r"\(not-(?:true|false) [\w.]+ (c\.if-not[^\s()]*\.(?:true|false))\)", r"\1", text)
-    text = re.sub(r"\bnot-(?:true|false) _ (c\.if-not[^\s()]*\.(?:true|false))(?=[\s)])", r"\1", text)
     # let l = c in: the new record is flat
     while True:
         m = re.search(r"\blet (\w+'?) = (\w+'?) in[ \n]\s*", text)
@@ -204,6 +209,9 @@ def convert_body(text, names, said):
         a, b = m.group(1), m.group(2)
         rest = re.sub(rf"(?<![\w.'-]){re.escape(a)}(?![\w'-])", b, text[m.end() :])
         text = text[: m.start()] + rest
+    # a test of `!x` speaks of x itself now
+    text = re.sub(r"\(not-(?:true|false) [\w.]+ (c\.if-not[^\s()]*\.(?:true|false))\)", r"\1", text)
+    text = re.sub(r"\bnot-(?:true|false) _ (c\.if-not[^\s()]*\.(?:true|false))(?=[\s)])", r"\1", text)
     return text
 
 
@@ -216,7 +224,7 @@ def turn(crate, path, j, said):
     proof = os.path.join(folder, "Proof.antt")
     text = open(proof, encoding="utf8").read()
     names = Names(j)
-    names.params = parameters(crate, path)
+    names.params, names.clauses = parameters(crate, path)
     fn = path.replace("/", ".")
     head, uses, blocks = split(text)
     uses = [u for u in uses if ".Statement." not in u and not u.endswith(" as tie")]
@@ -265,7 +273,7 @@ def turn(crate, path, j, said):
             continue
         if m and m.group(1).startswith("Need-"):
             old = m.group(1)[5:]
-            new = names.needs.get(canon(old))
+            new = names.needs.get(canon(old)) or names.needs.get(canon(old).replace("slice-bounds-", "part-"))
             body = "\n".join(l for l in b["lines"][n:] if not l.startswith("unfolding"))
             unf = [l for l in b["lines"][1:] if l.startswith("unfolding")]
             eq = re.search(r" =(?=\s|$)", body)

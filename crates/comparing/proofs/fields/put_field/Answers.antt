@@ -1,0 +1,23 @@
+-- Nothing, or one line.
+-- Assumes nothing.
+use Rattle.cases.specs.Digits.{ascii}
+use Rattle.comparing.specs.Differences.{unless}
+use Rattle.comparing.specs.Comparison.{line_of, text}
+use Rattle.comparing.proofs.Putting.{puts_none}
+use Rattle.comparing.proofs.Texts.{text_one}
+use borrow.Author.Rules.{rules}
+use Rattle.comparing.proofs.fields.put_field.Goals as goal
+
+pub returns-then-same : goal.returns-then-same
+unfolding unless text
+returns-then-same c = rw c.if-same.true (puts_none _ _)
+
+pub put_line-requires : goal.put_line-requires
+unfolding unless line_of ascii
+put_line-requires c =
+    rw (c.if-same.false, text_one) at c.requires
+
+pub returns : goal.returns
+unfolding unless line_of ascii
+returns c =
+    rw (c.if-same.false, text_one) c.put_line.ensures

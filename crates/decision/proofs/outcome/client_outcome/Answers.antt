@@ -1,0 +1,10 @@
+-- The client: resumed or full.
+-- Assumes nothing.
+use borrow.Author.Rules.{rules}
+use Rattle.decision.proofs.outcome.client_outcome.Goals as goal
+
+pub returns-then-resumes : goal.returns-then-resumes
+returns-then-resumes c = rw c.if-resumes.true c.resumed.ensures
+
+pub returns : goal.returns
+returns c = rw c.if-resumes.false c.full.ensures
