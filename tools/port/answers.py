@@ -253,6 +253,8 @@ def turn(crate, path, j, said):
             lhs, rhs = body[:eq].split(), body[eq + 2 :].lstrip("\n")
             args = lhs[1:]
             want = len(vars_) + sum(changed)
+            if len(args) > want:
+                args = [a for a in args if not re.fullmatch(r"t\d+₀?", a)]
             if len(args) != want:
                 said.append(f"look: {fn}: {m.group(1)} takes {len(args)} names, {want} are known: {args} / {vars_} {changed}")
             table = {}

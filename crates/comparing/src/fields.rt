@@ -113,7 +113,7 @@ pub(crate) fn put_fields(
     y: Fields,
 ) -> usize
     requires within { Within a.now x × Within b.now y }
-    requires y_in_bounds { at + length (text (field_differences number (hello_at a.now x) (hello_at b.now y))) ≤ length out.old }
+    requires room { at + length (text (field_differences number (hello_at a.now x) (hello_at b.now y))) ≤ length out.old }
     ensures { Puts out.old at (text (field_differences number (hello_at a.now x) (hello_at b.now y))) out.new result }
 {
     let at = put_field(out, at, number, b"version", x.version == y.version);

@@ -38,8 +38,8 @@ fn put_hellos(
     b: &[u8],
     second: Seen,
 ) -> usize
-    requires seen_within { SeenWithin a.now first × SeenWithin b.now second }
-    requires second_in_bounds { at + length (text (read_differences number (reading_at a.now first) (reading_at b.now second))) ≤ length out.old }
+    requires within { SeenWithin a.now first × SeenWithin b.now second }
+    requires room { at + length (text (read_differences number (reading_at a.now first) (reading_at b.now second))) ≤ length out.old }
     ensures { Puts out.old at (text (read_differences number (reading_at a.now first) (reading_at b.now second))) out.new result }
 {
     let Seen::Read(x) = first else {

@@ -24,8 +24,8 @@ put_fields-at-requires c =
     let x = hello_at a.a.now c.in-Read.x in
     let y = hello_at a.b.now c.in-Read-second.y in
     let n = two_long (field_differences a.number x y) (extension_differences a.number x.extensions y.extensions) in
-    let h = rw (c.in-Read.is, c.in-Read-second.is) at c.requires.second_in_bounds in
-    (rw (c.in-Read.is, c.in-Read-second.is) at c.requires.seen_within, omega (arith, h, n))
+    let h = rw (c.in-Read.is, c.in-Read-second.is) at c.requires.room in
+    record { within = rw (c.in-Read.is, c.in-Read-second.is) at c.requires.within; room = omega (arith, h, n) }
 
 pub put_extensions-requires : goal.put_extensions-requires
 unfolding read_differences reading_at hello_at
@@ -34,7 +34,7 @@ put_extensions-requires c =
     let x = hello_at a.a.now c.in-Read.x in
     let y = hello_at a.b.now c.in-Read-second.y in
     let n = two_long (field_differences a.number x y) (extension_differences a.number x.extensions y.extensions) in
-    let h = rw (c.in-Read.is, c.in-Read-second.is) at c.requires.second_in_bounds in
+    let h = rw (c.in-Read.is, c.in-Read-second.is) at c.requires.room in
     omega (arith, h, n, c.put_fields-at.ensures.place)
 
 pub returns : goal.returns
@@ -44,5 +44,5 @@ returns c =
     let x = hello_at a.a.now c.in-Read.x in
     let y = hello_at a.b.now c.in-Read-second.y in
     let n = two_long (field_differences a.number x y) (extension_differences a.number x.extensions y.extensions) in
-    let h = rw (c.in-Read.is, c.in-Read-second.is) at c.requires.second_in_bounds in
+    let h = rw (c.in-Read.is, c.in-Read-second.is) at c.requires.room in
     rw (c.in-Read.is, c.in-Read-second.is, text_append) (puts_both (omega (arith, h, n)) c.put_fields-at.ensures c.put_extensions.ensures)

@@ -29,7 +29,7 @@ put_hellos-at-requires c =
     let a = c.args in
     let x = seen_text a.number a.a.now a.b.now (read_client a.a.now) (read_client a.b.now) c.as_client.result c.as_client-2.result c.as_client.ensures c.as_client-2.ensures in
     let n = differ_long a.number a.a.now a.b.now (sym c.same.ensures ∙ c.if-same.false) in
-    ((seen_within a.a.now (read_client a.a.now) c.as_client.result c.as_client.ensures, seen_within a.b.now (read_client a.b.now) c.as_client-2.result c.as_client-2.ensures), omega (arith, c.requires.0, rw c.common.ensures.0 at c.put_numbered-at.ensures.place, n, ap length x))
+    record { within = (seen_within a.a.now (read_client a.a.now) c.as_client.result c.as_client.ensures, seen_within a.b.now (read_client a.b.now) c.as_client-2.result c.as_client-2.ensures); room = omega (arith, c.requires.0, rw c.common.ensures.0 at c.put_numbered-at.ensures.place, n, ap length x) }
 
 pub put_hellos-requires : goal.put_hellos-requires
 unfolding ascii
@@ -38,7 +38,7 @@ put_hellos-requires c =
     let x = seen_text a.number a.a.now a.b.now (read_client a.a.now) (read_client a.b.now) c.as_client.result c.as_client-2.result c.as_client.ensures c.as_client-2.ensures in
     let y = seen_text a.number a.a.now a.b.now (read_server a.a.now) (read_server a.b.now) c.as_server.result c.as_server-2.result c.as_server.ensures c.as_server-2.ensures in
     let n = differ_long a.number a.a.now a.b.now (sym c.same.ensures ∙ c.if-same.false) in
-    ((seen_within a.a.now (read_server a.a.now) c.as_server.result c.as_server.ensures, seen_within a.b.now (read_server a.b.now) c.as_server-2.result c.as_server-2.ensures), omega (arith, c.requires.0, rw c.common.ensures.0 at c.put_numbered-at.ensures.place, c.put_hellos-at.ensures.place, n, ap length x, ap length y))
+    record { within = (seen_within a.a.now (read_server a.a.now) c.as_server.result c.as_server.ensures, seen_within a.b.now (read_server a.b.now) c.as_server-2.result c.as_server-2.ensures); room = omega (arith, c.requires.0, rw c.common.ensures.0 at c.put_numbered-at.ensures.place, c.put_hellos-at.ensures.place, n, ap length x, ap length y) }
 
 pub returns : goal.returns
 unfolding ascii

@@ -17,7 +17,7 @@ use native.Mathlib.Omega.{arith}
 use Rattle.comparing.proofs.messages.put_messages.Given as goal
 
 abbrev pub invariant-loop-i : goal.invariant-loop-i
-invariant-loop-i l = (i ≤ l.both) × (l.i + left l.a i ≡ length l.a) × (q + left l.b i ≡ length l.b) × Writing l.initial.out 0 (text (differences l.a l.b)) l.p l.q (pairs_text l.a l.b i l.i q)
+invariant-loop-i l = (l.i ≤ l.both) × (l.p + left l.a l.i ≡ length l.a) × (l.q + left l.b l.i ≡ length l.b) × Writing l.initial.out 0 (text (differences l.a l.b)) l.out l.at (pairs_text l.a l.b l.i l.p l.q)
 
 abbrev pub decreases-loop-i : goal.decreases-loop-i
-decreases-loop-i l = l.both - i
+decreases-loop-i l = l.both - l.i
