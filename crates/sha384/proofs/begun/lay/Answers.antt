@@ -1,7 +1,7 @@
 -- The blocks hold the first i of the bytes that they are to hold.
 -- Assumes nothing.
-use Rattle.std.proofs.Common.{◌≡◌, ◌-◌, ◌≤◌, length, add-one, arith, length-set}
-use lib.Seq.{paste, paste-zero, paste-suc}
+use Rattle.std.proofs.Common.{◌≡◌, length, add-one, arith, length-set}
+use lib.Seq.{paste-zero, paste-suc}
 use Rattle.sha384.proofs.begun.lay.Goals as goal
 
 pub loop-i-init : goal.loop-i-init

@@ -1,6 +1,6 @@
 -- The first does not fit, or the second behind it, or the third decides.
 -- Assumes nothing.
-use Rattle.std.proofs.Common.{◌+◌, length, sym, arith, rules}
+use Rattle.std.proofs.Common.{◌+◌, length, sym, arith}
 use borrow.Author.Tests.{lt-leb}
 use Rattle.seqs.proofs.Room.{room_three}
 use Rattle.sha384.proofs.begun.short.Goals as goal

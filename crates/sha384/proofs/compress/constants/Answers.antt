@@ -1,15 +1,8 @@
 -- The constants of half a turn are the eight of the table from 8 * half on.
 -- Assumes nothing.
-use Rattle.std.proofs.Common.{◌≡◌, ℕ, ◌*◌, ◌<◌, ◌≤◌, take, drop, sym, ap, arith}
+use Rattle.std.proofs.Common.{◌≡◌, ℕ, ◌*◌, take, drop, sym, ap, arith}
 use Rattle.sha384.specs.Constants.{ks}
 use Rattle.sha384.proofs.compress.constants.Goals as goal
-
--- the last arm of the match, in two steps
-behind : (n : ℕ) → (n ≡ 0 → ⊥) → (n ≡ 1 → ⊥) → (n ≡ 2 → ⊥) → (n ≡ 3 → ⊥) → (n ≡ 4 → ⊥) → 5 ≤ n
-behind n a b c d e = omega arith
-
-last : (n : ℕ) → n < 10 → 5 ≤ n → (n ≡ 5 → ⊥) → (n ≡ 6 → ⊥) → (n ≡ 7 → ⊥) → (n ≡ 8 → ⊥) → n ≡ 9
-last n h g a b c d = omega arith
 
 pub returns-in-0 : goal.returns-in-0
 unfolding ks
@@ -68,7 +61,5 @@ returns-in-8 c =
 pub returns-in_default : goal.returns-in_default
 unfolding ks
 returns-in_default c =
-    let n = c.args.half in
-    let r = c.in_default.in_default-own.rest in
-    let e : n ≡ 9 = last n c.requires (behind n r.0.0.0.0.0.0.0.0.1 r.0.0.0.0.0.0.0.1 r.0.0.0.0.0.0.1 r.0.0.0.0.0.1 r.0.0.0.0.1) r.0.0.0.1 r.0.0.1 r.0.1 r.1 in
+    let e : c.args.half ≡ 9 = omega arith in
     ap (λ (i : ℕ). take 8 (drop (8 * i) ks)) (sym e)

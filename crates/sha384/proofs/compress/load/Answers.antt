@@ -1,6 +1,6 @@
 -- The block's own sixteen words.
 -- Assumes nothing.
-use Rattle.std.proofs.Common.{◌≡◌, ℕ, ◌+◌, take, drop, ap, ◌∙◌, arith, rules}
+use Rattle.std.proofs.Common.{◌≡◌, ℕ, ◌+◌, take, drop, ap, ◌∙◌, arith}
 use Rattle.seqs.specs.Tab.{tab}
 use Rattle.seqs.specs.Sha2.{schedule}
 use Rattle.seqs.specs.Words.{big, of_bytes}

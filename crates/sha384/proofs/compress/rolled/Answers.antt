@@ -1,6 +1,6 @@
 -- Sixteen words forward, one by one.
 -- Assumes nothing.
-use Rattle.std.proofs.Common.{arith, rules}
+use Rattle.std.proofs.Common.{arith}
 use Rattle.seqs.specs.Tab.{tab}
 use Rattle.seqs.proofs.Rolling.{spread, onward}
 use Rattle.sha384.specs.Compress.{parameters}

@@ -1,6 +1,6 @@
 -- Eight bytes, joined.
 -- Assumes nothing.
-use Rattle.std.proofs.Common.{sym, ap, ◌∙◌, rules}
+use Rattle.std.proofs.Common.{sym, ap, ◌∙◌}
 use Rattle.seqs.specs.Words.{big, of_bytes}
 use Rattle.seqs.proofs.Words.{eight_at}
 use Rattle.sha384.proofs.compress.word.Goals as goal

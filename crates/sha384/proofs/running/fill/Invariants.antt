@@ -1,7 +1,7 @@
 -- The tail holds the first i of the bytes that it is to hold.
 -- Assumes nothing.
-use Rattle.std.proofs.Common.{◌≡◌, ◌-◌, ◌<◌, ◌≤◌, length, drop, add-one, arith, length-drop, length-set, get_or-drop}
-use lib.Seq.{paste, paste-zero, paste-suc}
+use Rattle.std.proofs.Common.{◌≡◌, ◌-◌, ◌≤◌, length, drop}
+use lib.Seq.{paste}
 use Rattle.sha384.proofs.running.fill.Given as goal
 
 abbrev pub invariant-loop-i : goal.invariant-loop-i

@@ -1,10 +1,8 @@
 -- The block holds what waits, the one bit and zeros up to i.
 -- Assumes nothing.
-use Rattle.std.proofs.Common.{◌≡◌, ◌+◌, ◌-◌, ◌<◌, take, set, refl, arith}
-use lib.Seq.{take-set-le}
-use Rattle.seqs.specs.Fill.{Filled, filled_more, filled_all}
+use Rattle.std.proofs.Common.{◌-◌, ◌<◌}
+use Rattle.seqs.specs.Fill.{Filled}
 use Rattle.seqs.specs.Taken.{sealed}
-use Rattle.seqs.proofs.Ending.{sealed_more}
 use Rattle.sha384.proofs.running.seal.Given as goal
 
 abbrev pub invariant-loop-i : goal.invariant-loop-i

@@ -1,6 +1,6 @@
 -- The hash of a whole message, or the refusal.
 -- Assumes nothing.
-use Rattle.std.proofs.Common.{◌≤◌, length, sym, ap, ◌∙◌, arith, rules}
+use Rattle.std.proofs.Common.{◌≤◌, length, sym, ap, ◌∙◌, arith}
 use Rattle.refusal.specs.Table.{refusal_of}
 use Rattle.sha384.specs.Running.{most}
 use Rattle.sha384.specs.Laws.{number_over, number_within}

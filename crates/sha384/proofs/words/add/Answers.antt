@@ -1,7 +1,6 @@
 -- `sha384::words::add` is the sum modulo 2 ^ 64.
 -- Assumes nothing.
 use Rattle.seqs.specs.Operations.{add}
-use Rattle.std.proofs.Common.{rules}
 use Rattle.sha384.proofs.words.add.Goals as goal
 
 pub returns : goal.returns

@@ -1,6 +1,6 @@
 -- `sha384::words::big1` is what its document says, from what the calls ensure.
 -- Assumes nothing.
-use Rattle.std.proofs.Common.{ap₂, rules}
+use Rattle.std.proofs.Common.{ap₂}
 use lib.Bits.{bit_xor}
 use Rattle.sha384.specs.Functions.{Σ1}
 use Rattle.sha384.proofs.words.big1.Goals as goal

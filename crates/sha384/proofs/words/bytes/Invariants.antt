@@ -1,10 +1,8 @@
 -- `sha384::words::bytes` is the bytes of the words, in their order: eight stores a turn.
 -- Assumes nothing.
-use Rattle.std.proofs.Common.{◌≡◌, ◌-◌, ◌*◌, length, get_or, take, refl, add-one, arith, take_all, rules}
-use native.Mathlib.Numerals.{add-two, add-three, add-four, add_five, add_six, add_seven}
-use Rattle.seqs.specs.Fill.{Filled, filled_none, filled_run, filled_all}
+use Rattle.std.proofs.Common.{◌-◌, ◌*◌, take}
+use Rattle.seqs.specs.Fill.{Filled}
 use Rattle.seqs.specs.Words.{big, bytes_of}
-use Rattle.seqs.proofs.Words.{eight, eight_more}
 use Rattle.sha384.proofs.words.bytes.Given as goal
 
 abbrev pub invariant-loop-t : goal.invariant-loop-t

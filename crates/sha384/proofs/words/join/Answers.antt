@@ -1,6 +1,6 @@
 -- Eight bytes are one number.
 -- Assumes nothing.
-use Rattle.std.proofs.Common.{arith, rules}
+use Rattle.std.proofs.Common.{arith}
 use Rattle.seqs.specs.Words.{of_bytes}
 use Rattle.sha384.proofs.words.join.Goals as goal
 

@@ -1,6 +1,6 @@
 -- `sha384::words::rotr` is what its document says, by computation.
 -- Assumes nothing.
-use Rattle.std.proofs.Common.{refl, rules}
+use Rattle.std.proofs.Common.{refl}
 use Rattle.seqs.specs.Operations.{rotr}
 use Rattle.sha384.proofs.words.rotr.Goals as goal
 

@@ -1,6 +1,6 @@
 -- `sha384::words::small1` is what its document says, from what the calls ensure.
 -- Assumes nothing.
-use Rattle.std.proofs.Common.{refl, ap₂, rules}
+use Rattle.std.proofs.Common.{refl, ap₂}
 use lib.Bits.{bit_xor}
 use Rattle.sha384.specs.Functions.{σ1}
 use Rattle.sha384.proofs.words.small1.Goals as goal

@@ -10,11 +10,7 @@ use Rattle.sha256.specs.Compress.{step}
 use Rattle.sha256.specs.Running.{Running, most}
 use Rattle.sha256.proofs.Counting.{counts_completed}
 use Rattle.sha256.proofs.running.Hash.more.Goals as goal
-use Rattle.sha256.proofs.running.Hash.more.Goals.{After-wrapping_add_u64, Start}
-
--- known at the entry
-tail_long : (c : Start) → length c.args.self.tail ≡ 64
-tail_long c = search rules
+use Rattle.sha256.proofs.running.Hash.more.Goals.{After-wrapping_add_u64}
 
 -- the sum does not wrap where there is room
 counted : (c : After-wrapping_add_u64) (m : List ℕ) → Running c.args.self m
@@ -76,7 +72,7 @@ returns c =
     let b = c.args.bytes.now in
     let at = s.length % 64 in
     let left = (length b - (64 - at)) % 64 in
-    let t = tail_long (goal.at.returns c).Start in
+    let t : length s.tail ≡ 64 = search rules in
     let j = (length b - (64 - at)) / 64 in
     let g : 64 - at ≤ length b = c.if-n-at.false in
     let p : length (take at s.tail) ≡ at = length-take-le at s.tail (omega arith) in

@@ -1,10 +1,9 @@
 -- Five turns: before each the ring is W(16 * turn) to W(16 * turn + 15).
 -- Assumes nothing.
-use Rattle.std.proofs.Common.{◌≡◌, ℕ, ◌+◌, ◌-◌, ◌*◌, ◌≤◌, List, sym, ap, ◌∙◌, subst, ⊎_elim, arith, rules}
+use Rattle.std.proofs.Common.{◌≡◌, ℕ, ◌-◌, ◌*◌, ◌≤◌, List}
 use Rattle.sha384.specs.Layout.{value_of}
-use Rattle.sha384.specs.Compress.{parameters, schedule, rounds}
+use Rattle.sha384.specs.Compress.{schedule, rounds}
 use Rattle.sha384.specs.Compress.{Ring}
-use Rattle.seqs.proofs.Rolling.{rounds_none}
 use Rattle.sha384.proofs.compress.State384.all_rounds.Given as goal
 
 abbrev pub invariant-loop-turn : goal.invariant-loop-turn

@@ -1,6 +1,6 @@
 -- One block, from what the calls ensure.
 -- Assumes nothing.
-use Rattle.std.proofs.Common.{◌≡◌, ℕ, List, take, drop, sym, ap, ◌∙◌, subst, rules}
+use Rattle.std.proofs.Common.{◌≡◌, ℕ, List, take, drop, sym, ap, ◌∙◌, subst}
 use Rattle.sha384.specs.Layout.{value_of}
 use Rattle.sha384.specs.Compress.{parameters, schedule, rounds}
 use Rattle.seqs.specs.Sha2.{step, plus}

@@ -1,6 +1,6 @@
 -- The running hash that the block begins, with three pieces more.
 -- Assumes nothing.
-use Rattle.std.proofs.Common.{◌++◌, ap, ◌∙◌, append_assoc, arith, length-append, rules}
+use Rattle.std.proofs.Common.{◌++◌, ap, ◌∙◌, append_assoc, arith, length-append}
 use Rattle.sha384.specs.Sha384.{sha384}
 use Rattle.sha384.proofs.FirstBlock.{begun_runs}
 use Rattle.sha384.proofs.compress.State384.ended.Goals as goal

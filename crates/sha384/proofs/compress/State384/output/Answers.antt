@@ -1,7 +1,6 @@
 -- The digest is the bytes of the first six of the eight words.
 -- Assumes nothing.
 use Rattle.sha384.specs.Compress.{output}
-use Rattle.std.proofs.Common.{rules}
 use Rattle.sha384.proofs.compress.State384.output.Goals as goal
 
 pub returns : goal.returns

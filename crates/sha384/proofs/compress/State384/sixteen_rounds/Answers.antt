@@ -1,6 +1,6 @@
 -- Each round of a turn finds its word in the ring and its constant among those of its half.
 -- Assumes nothing.
-use Rattle.std.proofs.Common.{◌≡◌, ℕ, ◌+◌, ◌*◌, ◌≤◌, ap, ◌∙◌, arith, rules}
+use Rattle.std.proofs.Common.{◌≡◌, ℕ, ◌+◌, ◌*◌, ◌≤◌, ap, ◌∙◌, arith}
 use Rattle.sha384.specs.Layout.{value_of}
 use Rattle.sha384.specs.Compress.{parameters, schedule, rounds}
 use Rattle.seqs.proofs.Rolling.{round_more}

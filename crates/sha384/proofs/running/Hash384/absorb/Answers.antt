@@ -1,6 +1,6 @@
 -- Refused by the bound, or taken.
 -- Assumes nothing.
-use Rattle.std.proofs.Common.{◌+◌, ◌<◌, ◌≤◌, length, sym, refl, ap, ◌∙◌, arith, rules, ltb-false, ltb-true}
+use Rattle.std.proofs.Common.{◌+◌, ◌<◌, ◌≤◌, length, sym, refl, ap, ◌∙◌, arith, ltb-false, ltb-true}
 use Rattle.refusal.specs.Table.{refusal_of}
 use Rattle.sha384.specs.Running.{taken, most}
 use Rattle.sha384.specs.Laws.{number_over, number_within}

@@ -1,6 +1,6 @@
 -- A fresh hash has taken nothing.
 -- Assumes nothing.
-use Rattle.std.proofs.Common.{[], replicate, sym, subst, arith, rules}
+use Rattle.std.proofs.Common.{[], replicate, sym, subst, arith}
 use Rattle.seqs.specs.Taken.{Holds}
 use Rattle.seqs.proofs.Taking.{holds_none}
 use Rattle.seqs.specs.Sha2.{Value}

@@ -1,24 +1,15 @@
 -- What is taken goes behind what waits: no block is full, or the tail is filled up and is the first block, and the others lie in the new bytes.
 -- Assumes nothing.
-use Rattle.std.proofs.Common.{◌≡◌, ℕ, suc, ◌+◌, ◌-◌, ◌*◌, ◌/◌, ◌%◌, ◌^◌, ◌<◌, ◌≤◌, List, length, take, drop, replicate, ap, ◌∙◌, mod-eq_of_lt, arith, length-append, length-take-le, rules}
+use Rattle.std.proofs.Common.{◌≡◌, ℕ, suc, ◌+◌, ◌-◌, ◌*◌, ◌/◌, ◌%◌, ◌<◌, ◌≤◌, List, length, take, drop, replicate, ap, ◌∙◌, mod-eq_of_lt, arith, length-append, length-take-le, rules}
 use lib.Seq.{paste}
 use Rattle.seqs.proofs.Blocks.{after_none, after_more}
 use Rattle.seqs.proofs.Taking.{holds_more, left_over, short_tail, first_block}
-use Rattle.sha384.specs.Layout.{value_of}
 use Rattle.sha384.specs.Constants.{initial}
 use Rattle.sha384.specs.Compress.{step}
-use Rattle.sha384.specs.Sha384.{hashed}
 use Rattle.sha384.specs.Running.{Running, most}
 use Rattle.sha384.proofs.Counting.{counts_completed}
 use Rattle.sha384.proofs.running.Hash384.more.Goals as goal
-use Rattle.sha384.proofs.running.Hash384.more.Goals.{After-shared_slice_known-1, After-wrapping_add_u64, Start}
-
--- known at the entry
-tail_long : (c : Start) → length c.args.self.tail ≡ 128
-tail_long c = search rules
-
-bytes_long : (c : After-shared_slice_known-1) → length c.args.bytes.now < 2 ^ 63
-bytes_long c = omega arith
+use Rattle.sha384.proofs.running.Hash384.more.Goals.{After-wrapping_add_u64}
 
 -- the sum does not wrap where there is room
 counted : (c : After-wrapping_add_u64) (m : List ℕ) → Running c.args.self m
@@ -54,12 +45,6 @@ loop-i-init c =
     let z : (128 - at - (128 - at)) / 128 ≡ 0 = omega arith in
     (omega arith, omega arith, omega arith, rw z (after_none 128 step _ _), omega arith)
 
-pub overflow_add-count : goal.overflow_add-count
-overflow_add-count c = omega (arith, c.loop-i.invariant, bytes_long (goal.at.overflow_add-count c).After-shared_slice_known-1)
-
-pub overflow_add-i : goal.overflow_add-i
-overflow_add-i c = omega (arith, c.loop-i.invariant, bytes_long (goal.at.overflow_add-i c).After-shared_slice_known-1)
-
 pub loop-i-preserved : goal.loop-i-preserved
 loop-i-preserved c =
     let a = c.args in
@@ -74,7 +59,7 @@ returns c =
     let b = c.args.bytes.now in
     let at = s.length % 128 in
     let i = c.loop-i.i in
-    let t = tail_long (goal.at.returns c).Start in
+    let t : length s.tail ≡ 128 = search rules in
     let j = (i - (128 - at)) / 128 in
     let left = length b - i in
     let g : 128 - at ≤ length b = c.if-n-at.false in
