@@ -113,6 +113,17 @@ class Names:
                     self.arms[(canon(olds).replace("-", ""), tuple(path))] = (arm[0], field)
 
 
+def by_parameter(comps, params):
+    """.new.1.1.0 is .new of the third parameter"""
+    if len(comps) >= 2 and comps[0] in ("new", "auto"):
+        k = 1
+        while k < len(comps) and comps[k] == "1":
+            k += 1
+        if k < len(comps) and comps[k] == "0" and k - 1 < len(params):
+            return [comps[0], params[k - 1]] + comps[k + 1 :]
+    return comps
+
+
 def convert_path(path, names, said):
     """path: list of components behind the root"""
     out = []
@@ -129,10 +140,8 @@ def convert_path(path, names, said):
             return [arm[0], arm[1]] + comps[n:]
     if key in names.steps:
         out = [names.steps[key]] + comps[1:]
-        if len(out) >= 3 and out[1] == "new" and out[2].isdigit() and key in names.callee:
-            ps = names.callee[key]
-            if int(out[2]) < len(ps):
-                out[2] = ps[int(out[2])]
+        if key in names.callee:
+            out = out[:1] + by_parameter(out[1:], names.callee[key])
         if out[0].startswith("wrapping_") and out[1:] == ["ensures"]:
             out.append("value")
         return out
@@ -145,7 +154,7 @@ LET = re.compile(r"\blet (\w+'?) = ([a-z]\w*'?)((?:\.[^\s(){}\[\];,.]+)*) in\b")
 
 def convert_body(text, names, said):
     """Roots are c and what a let binds to an earlier place of c, which goes, or to c.args."""
-    roots, args = {"c"}, set()
+    roots, args, steps = {"c"}, set(), {}
     for m in LET.finditer(text):
         name, root, path = m.group(1), m.group(2), [x for x in m.group(3).split(".") if x]
         rest = [x for x in path if x != "before"]
@@ -153,6 +162,8 @@ def convert_body(text, names, said):
             roots.add(name)
         elif (root in roots and rest == ["args"]) or (root in args and not rest):
             args.add(name)
+        elif root in roots and len(rest) == 1 and canon(rest[0]).replace("-", "") in names.callee:
+            steps[name] = names.callee[canon(rest[0]).replace("-", "")]
 
     def argument(comps):
         m = re.fullmatch(r"t(\d+)", comps[0]) if comps else None
@@ -168,6 +179,8 @@ def convert_body(text, names, said):
             comps = convert_path(path, names, said)
             if comps and comps[0] == "args":
                 comps = ["args"] + argument(comps[1:])
+        elif root in steps:
+            comps = by_parameter(path, steps[root])
         else:
             return m.group(0)
         return root + "".join("." + c for c in comps)
@@ -180,6 +193,9 @@ def convert_body(text, names, said):
             code, comment = line[: k.start()], line[k.start() :]
         out.append(PATH.sub(one, code) + comment)
     text = "\n".join(out)
+    # a test of `!x` speaks of x itself now
+    text = re.sub(r"\(not-(?:true|false) [\w.]+ (c\.if-not[^\s()]*\.(?:true|false))\)", r"\1", text)
+    text = re.sub(r"\bnot-(?:true|false) _ (c\.if-not[^\s()]*\.(?:true|false))(?=[\s)])", r"\1", text)
     # let l = c in: the new record is flat
     while True:
         m = re.search(r"\blet (\w+'?) = (\w+'?) in[ \n]\s*", text)

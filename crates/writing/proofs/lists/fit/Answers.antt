@@ -7,9 +7,6 @@ use Rattle.writing.proofs.lists.fit.Goals as goal
 pub returns-then-types-lengths : goal.returns-then-types-lengths
 returns-then-types-lengths c = fits_not_count _ _ _ c.if-types-lengths.true
 
-pub overflow_cast-n : goal.overflow_cast-n
-overflow_cast-n c = omega (arith, c.shared_slice_known-1.given c.loop-i.i)
-
 pub returns-then-left-n : goal.returns-then-left-n
 returns-then-left-n c =
     let a = c.args in

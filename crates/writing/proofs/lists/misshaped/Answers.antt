@@ -14,15 +14,9 @@ loop-i-init c =
     let a = c.args in
     (omega arith, fitting_counts a.types.now a.lengths.now a.«data».now c.requires, zero-add _ ∙ fitting_sums a.types.now a.lengths.now a.«data».now c.requires, refl)
 
-pub overflow_cast-to : goal.overflow_cast-to
-overflow_cast-to c = omega (arith, c.shared_slice_known-in-loop-i-1.given c.loop-i.i)
-
 pub overflow_add-to : goal.overflow_add-to
 overflow_add-to c =
     omega (arith, total_step c.args.lengths.now c.loop-i.i (omega arith))
-
-pub overflow_cast-types : goal.overflow_cast-types
-overflow_cast-types c = omega (arith, c.shared_slice_known-in-loop-i-2-1.given c.loop-i.i)
 
 pub slice_bounds-well_shaped-end : goal.slice_bounds-well_shaped-end
 slice_bounds-well_shaped-end c =

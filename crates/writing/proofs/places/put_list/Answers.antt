@@ -25,9 +25,6 @@ loop-i-init c =
       refl,
     )
 
-pub overflow_cast-next : goal.overflow_cast-next
-overflow_cast-next c = omega (arith, c.shared_slice_known-in-loop-i-1.given c.loop-i.i)
-
 pub overflow_add-next : goal.overflow_add-next
 overflow_add-next c =
     omega (arith, total_step c.args.lengths.now c.loop-i.i (omega arith))
@@ -43,7 +40,7 @@ put_extension-to-requires c =
     let k : c.loop-i.from + n - c.loop-i.from ≡ n = omega arith in
     let t = total_step a.lengths.now c.loop-i.i (omega arith) in
     let m : length (take (c.loop-i.from + n - c.loop-i.from) (drop c.loop-i.from a.«data».now)) ≡ n = rw k (taken_long a.«data».now c.loop-i.from n (omega (arith, t))) in
-    (omega (arith, m, t), omega (arith, m, c.shared_slice_known-in-loop-i-1.given c.loop-i.i))
+    (omega (arith, m, t), omega (arith, m, c.type_inv.lengths c.loop-i.i))
 
 pub loop-i-preserved : goal.loop-i-preserved
 loop-i-preserved c =
