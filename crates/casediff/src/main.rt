@@ -1,20 +1,20 @@
 // Compares two cases, from the files that its two arguments name, and writes a line for each difference, and nothing where they
 // are equal. A file that cannot be read is no bytes, which are bad contents. Where the write fails it says so on standard error:
 // nothing means equal, so a lost answer must not be silent.
-use libc::STDOUT_FILENO;
+#![tactic(auto)]
 
-fn main() {
+fn main(rt: HostRuntime) {
     // A case of more than 32,768 bytes is bad, however it goes on: no more is read of either file.
     let mut first = [0u8; 32769];
     let mut second = [0u8; 32769];
-    let one = stdio::read_argument(1, &mut first);
-    let other = stdio::read_argument(2, &mut second);
+    let one = stdio::read_argument(&rt, 1, &mut first);
+    let other = stdio::read_argument(&rt, 2, &mut second);
     let n = one.length;
     let m = other.length;
     let mut text = [0u8; 358280];
     let compared = comparing::compare(&first[..n], &second[..m], &mut text);
     let length = compared.length;
-    if !io::write_all(STDOUT_FILENO, &text[..length]) {
-        os::fail(b"casediff: standard output");
+    if let Err(error) = rt.write_all(&text[..length]) {
+        stdio::say(&rt, "casediff: standard output", &error);
     }
 }

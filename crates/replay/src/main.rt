@@ -1,20 +1,20 @@
 // Reads a script of calls on the session table from standard input and writes the book's answers to standard output, both in
 // the layout of crates/script/specs/Script.antt. It reads at most 65,536 bytes, which are 585 calls. Where a read or a write
 // fails it says so on standard error, and nothing is answered of a script that was not read whole.
-use libc::{STDIN_FILENO, STDOUT_FILENO};
+#![tactic(auto)]
 
-fn main() {
+fn main(rt: HostRuntime) {
     let mut input = io::large_buffer();
-    let read = stdio::read_from(STDIN_FILENO, &mut input);
-    if read.failed {
-        os::fail(b"replay: standard input");
+    let read = stdio::read_from(&mut rt.stdin(), &mut input);
+    if let Some(error) = &read.error {
+        stdio::say(&rt, "replay: standard input", error);
         return;
     }
     let n = read.length;
     let mut out = io::large_buffer();
     script::replay(&input[..n], &mut out);
     let size = 70 * (n / 112);
-    if !io::write_all(STDOUT_FILENO, &out[..size]) {
-        os::fail(b"replay: standard output");
+    if let Err(error) = rt.write_all(&out[..size]) {
+        stdio::say(&rt, "replay: standard output", &error);
     }
 }

@@ -1,20 +1,22 @@
 // The published vectors, run: cases from standard input, on standard output two lines of hex for each, SHA-256's and SHA-384's.
 //
 // A case: the length of the message (2 bytes, big-endian), how often it is repeated (2 bytes), the message.
+#![tactic(auto)]
+
 ghost use Rattle.std.specs.Prelude.{◌<◌};
 
-use libc::{STDIN_FILENO, STDOUT_FILENO};
 use sha256::Hash;
 use sha384::Hash384;
 
-fn main() {
+fn main(rt: HostRuntime) {
     let mut cases = io::large_buffer();
-    let n = io::read_full(STDIN_FILENO, &mut cases);
-    run(&cases[..n]);
+    let read = stdio::read_from(&mut rt.stdin(), &mut cases);
+    let n = read.length;
+    run(&rt, &cases[..n]);
 }
 
 // Each case in turn, up to the first that is not whole.
-fn run(cases: &[u8]) {
+fn run<R: Print>(rt: &R, cases: &[u8]) {
     let mut at: usize = 0;
     while 4 <= cases.len() - at {
         let length = message::pair(cases, at);
@@ -24,8 +26,8 @@ fn run(cases: &[u8]) {
             return;
         }
         let end = at + length;
-        print(digest(&cases[at..end], times));
-        print384(digest384(&cases[at..end], times));
+        print(rt, digest(&cases[at..end], times));
+        print384(rt, digest384(&cases[at..end], times));
         at = end;
     }
 }
@@ -40,7 +42,7 @@ fn digest(piece: &[u8], times: usize) -> [u8; 32] {
     hash.digest()
 }
 
-fn print(bytes: [u8; 32]) {
+fn print<R: Print>(rt: &R, bytes: [u8; 32]) {
     let mut line = [b'\n'; 65];
     let mut i = 0;
     while i < 32 {
@@ -49,7 +51,7 @@ fn print(bytes: [u8; 32]) {
         line[2 * i + 1] = digit(x % 16);
         i += 1;
     }
-    io::write_all(STDOUT_FILENO, &line);
+    let _ = rt.write_all(&line);
 }
 
 fn digest384(piece: &[u8], times: usize) -> [u8; 48] {
@@ -62,7 +64,7 @@ fn digest384(piece: &[u8], times: usize) -> [u8; 48] {
     hash.digest()
 }
 
-fn print384(bytes: [u8; 48]) {
+fn print384<R: Print>(rt: &R, bytes: [u8; 48]) {
     let mut line = [b'\n'; 97];
     let mut i = 0;
     while i < 48 {
@@ -71,7 +73,7 @@ fn print384(bytes: [u8; 48]) {
         line[2 * i + 1] = digit(x % 16);
         i += 1;
     }
-    io::write_all(STDOUT_FILENO, &line);
+    let _ = rt.write_all(&line);
 }
 
 fn digit(n: u8) -> u8
