@@ -6,16 +6,12 @@ use Rattle.transcript.specs.Choice.{Choice, algorithm_by, algorithm_of}
 use Rattle.transcript.specs.Choice.Algorithm.{sha_256, sha_384}
 use Rattle.transcript.specs.Choice.Choice.{unchosen, chosen}
 use Rattle.transcript.specs.Carries.{choice_number}
-use Rattle.transcript.proofs.Transcript.is_sha384.Statement.{statement}
-use Rattle.transcript.proofs.Transcript.is_sha384.Tie as tie
+use Rattle.transcript.proofs.Transcript.is_sha384.Goals as goal
 
 by_number : (c : Choice) → algorithm_of c ≡ algorithm_by (eqb (choice_number c) 2)
 by_number unchosen = refl
 by_number (chosen sha_256) = refl
 by_number (chosen sha_384) = refl
 
-returns : tie.Need-returns
+pub returns : goal.returns
 returns x c m h = rw h.choice (by_number c)
-
-pub is-sha384-spec : {M : Type 1} → statement M
-is-sha384-spec = tie.close (tie.spec returns)
