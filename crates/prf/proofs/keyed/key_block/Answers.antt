@@ -2,7 +2,6 @@
 -- Assumes nothing.
 use mathlib.Core.Path.{◌≡◌, ◌∙◌, ap}
 use native.Mathlib.Omega.{arith}
-use borrow.Author.Rules.{rules}
 use Rattle.sha256.specs.Sha256.{sha256}
 use Rattle.sha256.specs.Laws.{digested_within}
 use Rattle.sha256.specs.declared.running.Digested.{Digested}

@@ -5,7 +5,6 @@ use lib.ListN.{length}
 use Rattle.prf.specs.Hash.{SHA384}
 use Rattle.prf.proofs.Answers.{tag_done, tag_refused, tagged384}
 use Rattle.prf.proofs.Numbers.{hmac_key, hmac_message, hmac_done}
-use borrow.Author.Rules.{rules}
 use Rattle.prf.proofs.keyed384.hmac384.Goals as goal
 
 pub returns-then-key-gt-MOST : goal.returns-then-key-gt-MOST

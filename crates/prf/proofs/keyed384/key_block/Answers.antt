@@ -2,7 +2,6 @@
 -- Assumes nothing.
 use mathlib.Core.Path.{◌≡◌, ◌∙◌, ap}
 use native.Mathlib.Omega.{arith}
-use borrow.Author.Rules.{rules}
 use Rattle.sha384.specs.Sha384.{sha384}
 use Rattle.sha384.specs.Laws.{digested_within}
 use Rattle.sha384.specs.declared.running.Digested384.{Digested384}

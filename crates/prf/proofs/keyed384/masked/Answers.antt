@@ -1,10 +1,9 @@
 -- Each byte of the block, masked.
 -- Assumes nothing.
 use mathlib.Core.Path.{refl}
-use Prim.Native.Nat.{◌-◌}
 use native.Mathlib.Omega.{arith}
 use borrow.Author.Rules.{rules}
-use Rattle.prf.proofs.Masks.{Masking, masking_none, masking_more, masking_all}
+use Rattle.prf.proofs.Masks.{masking_none, masking_more, masking_all}
 use Rattle.prf.proofs.keyed384.masked.Goals as goal
 
 pub loop-i-init : goal.loop-i-init

@@ -2,7 +2,6 @@
 -- Assumes nothing.
 use native.Mathlib.Omega.{arith}
 use Rattle.octets.proofs.Places.{put_zeros}
-use borrow.Author.Rules.{rules}
 use Rattle.prf.proofs.keyed384.padded.Goals as goal
 
 pub returns : goal.returns

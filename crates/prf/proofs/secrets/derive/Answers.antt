@@ -4,8 +4,8 @@ use mathlib.Core.Path.{◌≡◌, sym, ap}
 use mathlib.Core.List.{List, ◌++◌}
 use Prim.Native.Nat.{ℕ}
 use native.Mathlib.Omega.{arith}
-use borrow.Author.Rules.{rules}
-use lib.ListN.{drop}
+use Prim.Native.Nat.{◌≤◌}
+use lib.ListN.{length, drop}
 use lib.Seq.{length-take-le}
 use Rattle.prf.specs.Hash.{SHA256}
 use Rattle.prf.specs.Prf.{prf}
@@ -29,11 +29,12 @@ slice_bounds-expand-end-2 c =
 
 pub expand-requires : goal.expand-requires
 expand-requires c =
-    omega (arith, slice-aggregate-expand c, secret_within _ _ _ _ c.secret_number-number.ensures c.if-number-ne0.false)
+    omega (arith, slice_bounds-expand-end-2 c, secret_within _ _ _ _ c.secret_number-number.ensures c.if-number-ne0.false)
 
 pub returns : goal.returns
 returns c =
     let a = c.args in
     let k = a.pre_master.now in
-    let v : c.expand.new.out ≡ prf SHA256 k a.label.now a.seed.now 48 = rw (← slice-aggregate-expand c) at (c.expand.ensures k c.by.ensures) in
+    let long : 48 ≤ length a.out.now = omega (arith, secret_within _ _ _ _ c.secret_number-number.ensures c.if-number-ne0.false) in
+    let v : c.expand.new.out ≡ prf SHA256 k a.label.now a.seed.now 48 = rw (length-take-le 48 a.out.now long) at (c.expand.ensures k c.by.ensures) in
     derived _ a.out.now c.secret_number-number.ensures c.refuse-2.ensures c.if-number-ne0.false (ap (λ (r : List ℕ). r ++ drop 48 a.out.now) v)

@@ -1,6 +1,5 @@
 -- The label is that of RFC 7627, and the seed is as long as the stated hash is wide.
 -- Assumes nothing.
-use borrow.Author.Rules.{rules}
 use Rattle.prf.specs.Secrets.{extended_master_secret}
 use Rattle.prf.proofs.secrets.extended_master_secret.Goals as goal
 

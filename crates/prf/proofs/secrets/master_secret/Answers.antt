@@ -1,6 +1,5 @@
 -- The label and the seed's length are those of RFC 5246, with the stated hash.
 -- Assumes nothing.
-use borrow.Author.Rules.{rules}
 use Rattle.prf.specs.Secrets.{master_secret}
 use Rattle.prf.proofs.secrets.master_secret.Goals as goal
 

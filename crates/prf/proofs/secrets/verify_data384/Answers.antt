@@ -4,7 +4,6 @@ use Rattle.prf.specs.Hash.{SHA384}
 use Rattle.prf.specs.Secrets.{verify_data}
 use Rattle.prf.proofs.Numbers.{verify_other, verify_done}
 use Rattle.prf.proofs.Answers.{verified, unverified}
-use borrow.Author.Rules.{rules}
 use Rattle.prf.proofs.secrets.verify_data384.Goals as goal
 
 pub returns-then-secret-ne48 : goal.returns-then-secret-ne48

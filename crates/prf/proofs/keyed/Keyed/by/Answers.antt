@@ -2,7 +2,6 @@
 -- Assumes nothing.
 use Rattle.prf.specs.Hash.{SHA256}
 use Rattle.prf.proofs.Keys.{keys_taken}
-use borrow.Author.Rules.{rules}
 use Rattle.prf.proofs.keyed.Keyed.by.Goals as goal
 
 pub returns : goal.returns

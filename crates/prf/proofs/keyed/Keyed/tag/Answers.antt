@@ -3,12 +3,11 @@
 use native.Mathlib.Omega.{arith}
 use Rattle.prf.specs.Hash.{SHA256}
 use Rattle.prf.proofs.Keys.{hmac_outer}
-use borrow.Author.Rules.{rules}
 use Rattle.prf.proofs.keyed.Keyed.tag.Goals as goal
 
 pub returns-then-a-b-le-SHORT : goal.returns-then-a-b-le-SHORT
 returns-then-a-b-le-SHORT c k h =
-    hmac_outer SHA256 k _ (c.ended_short-digest.ensures _ h.inner (omega arith)) (c.Ended-by.ensures _ h.outer)
+    hmac_outer SHA256 k _ (c.ended_short-digest.ensures _ h.inner (omega arith)) (c.ended_by.ensures _ h.outer)
 
 pub returns : goal.returns
 returns c k h =

@@ -2,7 +2,6 @@
 -- Assumes nothing.
 use Rattle.prf.specs.Hash.{SHA384}
 use Rattle.prf.proofs.Keys.{keys_taken}
-use borrow.Author.Rules.{rules}
 use Rattle.prf.proofs.keyed384.Keyed384.by.Goals as goal
 
 pub returns : goal.returns
