@@ -16,7 +16,7 @@ LONGEST = 16_388
 SECRET, OTHER = bytes(range(48)), bytes(48)
 NOT_48_BYTES = (b"", SECRET[1:], SECRET + b"\x00", bytes(LONGEST + 1))
 
-# The words of accepted messages that lead to a place, in the order of the places' numbers (crates/log/src/order.rt).
+# The words of accepted messages that lead to a place, in the order of the places' numbers (crates/message_log/src/order.rt).
 FULL = ["", "a", "ab", "abc", "abc?k", "abc?k?r", "abc?k?d", "abc?k?rd", "abc?k?rdc", "abc?k?dx", "abc?k?rdcx", ".*v", ".*C", ".*CS"]
 RESUMED = ["ab", "abS", "abSC"]
 CHOICES = {None: 0, False: 1, True: 2}  # the number for what is chosen: both hashes, SHA-256, SHA-384

@@ -19,12 +19,12 @@ use Rattle.decision.specs.Connection.{closed, wrong_first, decided, decision}
 use Rattle.decision.specs.Reply.{reply_list, reply_of}
 use Rattle.decision.specs.Server.{on_offer, session_in, server_wrong, server_flag, resumable, server_outcome, server_reply, server_number, server_decision}
 use Rattle.transcript.specs.Choice.{Algorithm}
-use Rattle.log.specs.Told.{Told, resuming}
-use Rattle.log.specs.Order.{turns, is_due, look, finished_due}
-use Rattle.log.specs.History.{tells, place_of, hashed}
-use Rattle.log.specs.Standing.{history_of}
-use Rattle.log.specs.Calls.{wrong_body, misshapen, out_of_turn, is_finished, accept_number, after_accept}
-use Rattle.log.specs.Finish.{expected_value, expected_number, finish_number}
+use Rattle.message_log.specs.Told.{Told, resuming}
+use Rattle.message_log.specs.Order.{turns, is_due, look, finished_due}
+use Rattle.message_log.specs.History.{tells, place_of, hashed}
+use Rattle.message_log.specs.Standing.{history_of}
+use Rattle.message_log.specs.Calls.{wrong_body, misshapen, out_of_turn, is_finished, accept_number, after_accept}
+use Rattle.message_log.specs.Finish.{expected_value, expected_number, finish_number}
 use Rattle.sessions.specs.Book as book
 use Rattle.gateway.specs.Cases.{SmallestHellos, Cases, message, greeted, numbers_from, held_by}
 

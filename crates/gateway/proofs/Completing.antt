@@ -14,17 +14,17 @@ use Rattle.refusal.specs.Table.{refusal_of}
 use Rattle.refusal.specs.Listed.{row_number, numbered}
 use Rattle.refusal.proofs.First.{first_zero}
 use Rattle.refusal.specs.declared.Refusal.{Refusal}
-use Rattle.log.specs.History.{complete, verify_data_of}
-use Rattle.log.specs.History.History.{fresh}
-use Rattle.log.specs.History.Side.{client, server}
-use Rattle.log.specs.Standing.{Standing, history_of, between}
-use Rattle.log.specs.Standing.Standing.{whole, parted}
-use Rattle.log.specs.Calls.{finished_of}
-use Rattle.log.specs.Stands.{Stands}
-use Rattle.log.specs.Runs.{standing_from, Came}
-use Rattle.log.proofs.Runs.{law}
-use Rattle.log.specs.declared.state.Log.{Log}
-use Rattle.log.specs.declared.answers.Finished.{Finished}
+use Rattle.message_log.specs.History.{complete, verify_data_of}
+use Rattle.message_log.specs.History.History.{fresh}
+use Rattle.message_log.specs.History.Side.{client, server}
+use Rattle.message_log.specs.Standing.{Standing, history_of, between}
+use Rattle.message_log.specs.Standing.Standing.{whole, parted}
+use Rattle.message_log.specs.Calls.{finished_of}
+use Rattle.message_log.specs.Stands.{Stands}
+use Rattle.message_log.specs.Runs.{standing_from, Came}
+use Rattle.message_log.proofs.Runs.{law}
+use Rattle.message_log.specs.declared.state.Log.{Log}
+use Rattle.message_log.specs.declared.answers.Finished.{Finished}
 use Rattle.decision.specs.declared.connection.Connection.{Connection}
 use Rattle.decision.specs.declared.connection.Decision.{Decision}
 use Rattle.gateway.specs.declared.completion.Completed.{Completed}

@@ -20,7 +20,7 @@ use Rattle.decision.specs.declared.connection.Switches.{Switches}
 use Rattle.decision.specs.declared.connection.Decision.{Decision}
 use Rattle.decision.proofs.Judging.{decision_refused}
 use Rattle.decision.proofs.Serving.{decision_number}
-use Rattle.log.specs.Calls.{broken_at}
+use Rattle.message_log.specs.Calls.{broken_at}
 use Rattle.gateway.specs.Hellos.{client_reading, server_reading}
 use Rattle.gateway.specs.HandedOn.{ServerHandsOn, ClientHandsOn, LogHandsOn, PartHandsOn}
 use Rattle.gateway.specs.declared.hellos.ClientReading.{ClientReading}

@@ -12,10 +12,10 @@ use Rattle.sessions.specs.Book as book
 use Rattle.decision.specs.Connection.{closed, wrong_first, refused_by, decision}
 use Rattle.decision.specs.Server.{server_wrong, server_outcome, server_number, server_decision}
 use Rattle.decision.specs.Client.{bad_offer, client_wrong, client_outcome, client_resumes, fullness, client_number, client_decision}
-use Rattle.log.specs.Order.{turns, is_due, look, finished_due}
-use Rattle.log.specs.History.{place_of}
-use Rattle.log.specs.Calls.{wrong_body, misshapen, out_of_turn, is_finished, accept_number}
-use Rattle.log.specs.Finish.{finish_number}
+use Rattle.message_log.specs.Order.{turns, is_due, look, finished_due}
+use Rattle.message_log.specs.History.{place_of}
+use Rattle.message_log.specs.Calls.{wrong_body, misshapen, out_of_turn, is_finished, accept_number}
+use Rattle.message_log.specs.Finish.{finish_number}
 use Rattle.gateway.specs.Places.{CutOff, OwnPlace, Shapes, Repeats, Logged, NoPlace, Places}
 
 cut_off_lem : CutOff

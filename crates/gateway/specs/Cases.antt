@@ -18,12 +18,12 @@ use Rattle.decision.specs.declared.connection.Switches.{Switches}
 use Rattle.decision.specs.declared.connection.Decision.{Decision}
 use Rattle.transcript.specs.Choice.{Algorithm}
 use Rattle.transcript.specs.Choice.Algorithm.{sha_256}
-use Rattle.log.specs.Told.{Told, full, resuming}
-use Rattle.log.specs.History.History.{fresh}
-use Rattle.log.specs.Standing.{Standing, history_of, entered}
-use Rattle.log.specs.Standing.Standing.{whole}
-use Rattle.log.specs.Calls.{accept_number, after_accept}
-use Rattle.log.specs.Finish.{expected_value, expected_number, finish_number}
+use Rattle.message_log.specs.Told.{Told, full, resuming}
+use Rattle.message_log.specs.History.History.{fresh}
+use Rattle.message_log.specs.Standing.{Standing, history_of, entered}
+use Rattle.message_log.specs.Standing.Standing.{whole}
+use Rattle.message_log.specs.Calls.{accept_number, after_accept}
+use Rattle.message_log.specs.Finish.{expected_value, expected_number, finish_number}
 
 -- ---- readings
 

@@ -6,15 +6,15 @@ use Rattle.seqs.specs.Flag.{yes, bit}
 use Rattle.refusal.specs.First.{first_of}
 use Rattle.refusal.specs.Table.{refusal_of}
 use Rattle.refusal.specs.declared.Refusal.{Refusal}
-use Rattle.log.specs.History.History.{fresh}
-use Rattle.log.specs.History.Side.{client, server}
-use Rattle.log.specs.Standing.{Standing, history_of, between}
-use Rattle.log.specs.Standing.Standing.{whole}
-use Rattle.log.specs.Calls.{finished_of}
-use Rattle.log.specs.Stands.{Stands}
-use Rattle.log.specs.Runs.{Call, standing_from, Run, Came}
-use Rattle.log.specs.declared.state.Log.{Log}
-use Rattle.log.specs.declared.answers.Finished.{Finished}
+use Rattle.message_log.specs.History.History.{fresh}
+use Rattle.message_log.specs.History.Side.{client, server}
+use Rattle.message_log.specs.Standing.{Standing, history_of, between}
+use Rattle.message_log.specs.Standing.Standing.{whole}
+use Rattle.message_log.specs.Calls.{finished_of}
+use Rattle.message_log.specs.Stands.{Stands}
+use Rattle.message_log.specs.Runs.{Call, standing_from, Run, Came}
+use Rattle.message_log.specs.declared.state.Log.{Log}
+use Rattle.message_log.specs.declared.answers.Finished.{Finished}
 use Rattle.decision.specs.declared.connection.Connection.{Connection}
 use Rattle.decision.specs.declared.connection.Decision.{Decision}
 use Rattle.gateway.specs.declared.completion.Completed.{Completed}

@@ -12,11 +12,11 @@ use Rattle.decision.specs.Client.{Lent, client_decision}
 use Rattle.decision.specs.declared.connection.Connection.{Connection}
 use Rattle.decision.specs.declared.connection.Switches.{Switches}
 use Rattle.decision.specs.declared.connection.Decision.{Decision}
-use Rattle.log.specs.Told.{Told}
-use Rattle.log.specs.Promise.{Accepts, Finishes, Feeds}
-use Rattle.log.specs.declared.state.Log.{Log}
-use Rattle.log.specs.declared.answers.Accepted.{Accepted}
-use Rattle.log.specs.declared.answers.Fed.{Fed}
+use Rattle.message_log.specs.Told.{Told}
+use Rattle.message_log.specs.Promise.{Accepts, Finishes, Feeds}
+use Rattle.message_log.specs.declared.state.Log.{Log}
+use Rattle.message_log.specs.declared.answers.Accepted.{Accepted}
+use Rattle.message_log.specs.declared.answers.Fed.{Fed}
 use Rattle.gateway.specs.Hellos.{client_reading, server_reading}
 use Rattle.gateway.specs.declared.hellos.ClientReading.{ClientReading}
 use Rattle.gateway.specs.declared.hellos.ServerReading.{ServerReading}

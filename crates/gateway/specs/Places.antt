@@ -9,11 +9,11 @@ use Rattle.hello.specs.Fields.{fault, read_client, read_server}
 use Rattle.decision.specs.Server.{server_decision}
 use Rattle.decision.specs.Client.{client_decision}
 use Rattle.transcript.specs.Choice.Algorithm.{sha_256}
-use Rattle.log.specs.Told.{full}
-use Rattle.log.specs.History.History.{fresh}
-use Rattle.log.specs.Standing.Standing.{whole}
-use Rattle.log.specs.Calls.{accept_number, broken_at}
-use Rattle.log.specs.Finish.{finish_number}
+use Rattle.message_log.specs.Told.{full}
+use Rattle.message_log.specs.History.History.{fresh}
+use Rattle.message_log.specs.Standing.Standing.{whole}
+use Rattle.message_log.specs.Calls.{accept_number, broken_at}
+use Rattle.message_log.specs.Finish.{finish_number}
 use Rattle.gateway.specs.Cases.{message, connection, legacy, room}
 
 -- ---- the calls: a ClientHello is read, and the server decides on it; a ServerHello is read, and the client decides on it; the log

@@ -4,7 +4,7 @@ ghost use Rattle.seqs.specs.Flag.{yes, bit};
 ghost use Rattle.gateway.specs.Completion.{completed_of, Completes};
 
 use decision::{Connection, Decision};
-use log::{Finished, Log};
+use message_log::{Finished, Log};
 use refusal::Refusal;
 
 #[repr(C)]

@@ -1,11 +1,11 @@
 // The message log (document 01).
-ghost use Rattle.log.specs.Told.{told_of};
-ghost use Rattle.log.specs.History.History.{fresh};
-ghost use Rattle.log.specs.Standing.Standing.{whole};
-ghost use Rattle.log.specs.Stands.{Stands};
-ghost use Rattle.log.specs.Promise.{Accepts, Feeds, Finishes, Hashes, Expects};
+ghost use Rattle.message_log.specs.Told.{told_of};
+ghost use Rattle.message_log.specs.History.History.{fresh};
+ghost use Rattle.message_log.specs.Standing.Standing.{whole};
+ghost use Rattle.message_log.specs.Stands.{Stands};
+ghost use Rattle.message_log.specs.Promise.{Accepts, Feeds, Finishes, Hashes, Expects};
 
-use log::{Accepted, Expected, Fed, Log, SessionHash, Told};
+use message_log::{Accepted, Expected, Fed, Log, SessionHash, Told};
 
 #[unsafe(no_mangle)]
 pub extern "C" fn axle_log_fresh() -> Log

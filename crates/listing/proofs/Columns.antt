@@ -12,8 +12,8 @@ use Rattle.refusal.specs.Listed.{numbered_at}
 use Rattle.refusal.specs.declared.Refusal.{Refusal}
 use Rattle.message.specs.Numbers.{byte_at}
 use Rattle.message.specs.Frame.{kind_of}
-use Rattle.log.specs.Standing.{Standing}
-use Rattle.log.specs.Calls.{broken_at}
+use Rattle.message_log.specs.Standing.{Standing}
+use Rattle.message_log.specs.Calls.{broken_at}
 use Rattle.cases.specs.Digits.{ascii}
 use Rattle.listing.specs.Texts.{column_of, printed}
 use Rattle.listing.specs.Listing.{kind_column, decision_refusal, answer_of, hello_column, log_number, log_refusal, line_for}

@@ -14,10 +14,10 @@ use Rattle.hello.specs.Fields.{opening, closing, client_layout, lists, hello_fau
 use Rattle.sessions.specs.Book.{bad_axle}
 use Rattle.decision.specs.Connection.{closed, wrong_first, refused_by, decision}
 use Rattle.decision.specs.Server.{session_in, server_wrong, server_outcome, server_number, server_decision}
-use Rattle.log.specs.Order.{turns, is_due, finished_due}
-use Rattle.log.specs.History.{place_of}
-use Rattle.log.specs.Calls.{wrong_body, misshapen, out_of_turn, is_finished, accept_number, after_accept}
-use Rattle.log.specs.Finish.{finish_number}
+use Rattle.message_log.specs.Order.{turns, is_due, finished_due}
+use Rattle.message_log.specs.History.{place_of}
+use Rattle.message_log.specs.Calls.{wrong_body, misshapen, out_of_turn, is_finished, accept_number, after_accept}
+use Rattle.message_log.specs.Finish.{finish_number}
 use Rattle.cases.specs.Contents.{count_of, lengths_in, lengths_of, contents_size, parts_of, bodies_of, total, good_case}
 use Rattle.cases.specs.Digits.{ascii, digits, decimal}
 use Rattle.listing.specs.Texts.{header, refused, answered, column_of, printed}

@@ -3,11 +3,11 @@
 use mathlib.Core.Path.{◌≡◌, sym, ◌∙◌, ap}
 use mathlib.Core.List.{List, ◌++◌, append_assoc, append-nil}
 use Prim.Native.Nat.{ℕ, ◌+◌, ◌≤◌, ◌<◌}
-use Rattle.log.specs.History.History.{fresh}
-use Rattle.log.specs.Standing.{Standing}
-use Rattle.log.specs.Standing.Standing.{whole}
-use Rattle.log.specs.Stands.{Stands}
-use Rattle.log.specs.declared.state.Log.{Log}
+use Rattle.message_log.specs.History.History.{fresh}
+use Rattle.message_log.specs.Standing.{Standing}
+use Rattle.message_log.specs.Standing.Standing.{whole}
+use Rattle.message_log.specs.Stands.{Stands}
+use Rattle.message_log.specs.declared.state.Log.{Log}
 use Rattle.cases.specs.Contents.{count_of, contents_size, bodies_of}
 use Rattle.listing.specs.Texts.{header, line_of, text_of}
 use Rattle.listing.specs.Listing.{lines, log_after}

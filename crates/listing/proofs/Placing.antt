@@ -13,8 +13,8 @@ use Rattle.seqs.specs.Cases.{by_test}
 use Rattle.refusal.specs.Table.{placed, refusal_at, refusal_of}
 use Rattle.refusal.specs.Listed.{place_at, placed_at}
 use Rattle.refusal.specs.declared.Refusal.{Refusal}
-use Rattle.log.specs.Calls.{broken_at}
-use Rattle.log.proofs.Messages.{broken_within}
+use Rattle.message_log.specs.Calls.{broken_at}
+use Rattle.message_log.proofs.Messages.{broken_within}
 use Rattle.hello.specs.Fields.{Reading, fields, fault, read_client}
 use Rattle.hello.proofs.Within.{client_place_within}
 use Rattle.sessions.specs.Book.{empty}

@@ -6,11 +6,11 @@ use Prim.Native.Nat.{ℕ}
 use borrow.Author.Tests.{eq-eqb, ne_eqb}
 use Rattle.message.specs.Frame.{kind_of}
 use Rattle.transcript.specs.Choice.Algorithm.{sha_256}
-use Rattle.log.specs.Told.{full}
-use Rattle.log.specs.Calls.{is_finished}
-use Rattle.log.specs.Promise.{Accepts, Finishes}
-use Rattle.log.specs.declared.state.Log.{Log}
-use Rattle.log.specs.declared.answers.Accepted.{Accepted}
+use Rattle.message_log.specs.Told.{full}
+use Rattle.message_log.specs.Calls.{is_finished}
+use Rattle.message_log.specs.Promise.{Accepts, Finishes}
+use Rattle.message_log.specs.declared.state.Log.{Log}
+use Rattle.message_log.specs.declared.answers.Accepted.{Accepted}
 use Rattle.listing.specs.Listing.{zero_secret, log_number, log_refusal, log_after}
 use Rattle.listing.specs.Steps.{Takes}
 use Rattle.listing.proofs.Placing.{log_place}

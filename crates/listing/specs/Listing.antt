@@ -6,12 +6,12 @@ use Rattle.refusal.specs.Table.{refusal_at}
 use Rattle.refusal.specs.declared.Refusal.{Refusal}
 use Rattle.message.specs.Frame.{kind_of}
 use Rattle.transcript.specs.Choice.Algorithm.{sha_256}
-use Rattle.log.specs.Told.{full}
-use Rattle.log.specs.History.History.{fresh}
-use Rattle.log.specs.Standing.{Standing}
-use Rattle.log.specs.Standing.Standing.{whole}
-use Rattle.log.specs.Calls.{is_finished, broken_at, accept_number, after_accept}
-use Rattle.log.specs.Finish.{finish_number, after_finish}
+use Rattle.message_log.specs.Told.{full}
+use Rattle.message_log.specs.History.History.{fresh}
+use Rattle.message_log.specs.Standing.{Standing}
+use Rattle.message_log.specs.Standing.Standing.{whole}
+use Rattle.message_log.specs.Calls.{is_finished, broken_at, accept_number, after_accept}
+use Rattle.message_log.specs.Finish.{finish_number, after_finish}
 use Rattle.hello.specs.Fields.{read_client}
 use Rattle.sessions.specs.Book.{empty}
 use Rattle.decision.specs.Connection.{fresh_connection}

@@ -1,10 +1,10 @@
 -- What feeding one message promises: what the log answers to it, the line that is printed of it, and the log after it.
 -- Assumes nothing.
 use Rattle.std.specs.Prelude.{◌≡◌, List, ℕ, ◌≤◌}
-use Rattle.log.specs.Standing.{Standing}
-use Rattle.log.specs.Stands.{Stands}
-use Rattle.log.specs.declared.state.Log.{Log}
-use Rattle.log.specs.declared.answers.Accepted.{Accepted}
+use Rattle.message_log.specs.Standing.{Standing}
+use Rattle.message_log.specs.Stands.{Stands}
+use Rattle.message_log.specs.declared.state.Log.{Log}
+use Rattle.message_log.specs.declared.answers.Accepted.{Accepted}
 use Rattle.listing.specs.Texts.{line_of}
 use Rattle.listing.specs.Listing.{line_for, log_refusal, log_after}
 use Rattle.listing.specs.declared.feed.Fed.{Fed}

@@ -1,7 +1,7 @@
 // The whole text of a case.
 ghost use Rattle.std.specs.Prelude.{◌≡◌, true, ◌++◌, ◌≤◌};
-ghost use Rattle.log.specs.History.History.{fresh};
-ghost use Rattle.log.specs.Standing.Standing.{whole};
+ghost use Rattle.message_log.specs.History.History.{fresh};
+ghost use Rattle.message_log.specs.Standing.Standing.{whole};
 ghost use Rattle.cases.specs.Contents.{good_case, bodies_of};
 ghost use Rattle.listing.specs.Texts.{header, text_of};
 ghost use Rattle.listing.specs.Listing.{lines, listing};
@@ -9,7 +9,7 @@ ghost use Rattle.listing.specs.Listing.{lines, listing};
 use crate::feed::feed;
 use crate::text::Text;
 use cases::is_good;
-use log::Log;
+use message_log::Log;
 use message::{byte, pair};
 
 // What a case prints, whatever its bytes are.

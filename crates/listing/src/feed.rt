@@ -7,7 +7,7 @@ ghost use Rattle.listing.specs.Steps.{Takes, Feeds};
 
 use crate::line::{Column, Line};
 use decision::{Connection, Switches, decide_server};
-use log::{Accepted, Log, Told};
+use message_log::{Accepted, Log, Told};
 use message::byte;
 use refusal::Refusal;
 use sessions::Table;

@@ -45,9 +45,9 @@ use Rattle.gateway.specs.Completion.{Completes}
 use Rattle.decision.specs.declared.connection.Connection.{Connection}
 use Rattle.decision.specs.contracts.connection.Connection as R
 use Rattle.decision.proofs.connection.Connection.TheLaws as R'
-use Rattle.log.specs.declared.state.Log.{Log}
-use Rattle.log.specs.contracts.state.Log as L
-use Rattle.log.proofs.state.Log.TheLaws as L'
+use Rattle.message_log.specs.declared.state.Log.{Log}
+use Rattle.message_log.specs.contracts.state.Log as L
+use Rattle.message_log.proofs.state.Log.TheLaws as L'
 use Rattle.decision.specs.declared.connection.Decision.{Decision}
 use Rattle.decision.specs.contracts.connection.Decision as D
 use Rattle.decision.proofs.connection.Decision.TheLaws as D'

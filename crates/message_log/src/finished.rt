@@ -1,0 +1,41 @@
+// What completion asks of a log.
+ghost use Rattle.std.specs.Prelude.{◌≡◌};
+ghost use Rattle.message_log.specs.Standing.{Standing};
+ghost use Rattle.message_log.specs.Calls.{finished_of};
+ghost use Rattle.message_log.specs.Stands.{Stands};
+
+use crate::answers::Finished;
+use crate::order;
+use crate::state::Log;
+
+impl Log {
+    // Both values at once, and only when both Finished are taken.
+    pub fn finished(self) -> Finished
+        ensures { (s : Standing) → Stands self s → result ≡ finished_of s }
+    {
+        let client = self.client;
+        let server = self.server;
+        if self.place == order::COMPLETE_FULL {
+            return Finished {
+                complete: 1,
+                resumed: 0,
+                client,
+                server,
+            };
+        }
+        if self.place == order::COMPLETE_RESUMED {
+            return Finished {
+                complete: 1,
+                resumed: 1,
+                client,
+                server,
+            };
+        }
+        Finished {
+            complete: 0,
+            resumed: 0,
+            client: [0; 12],
+            server: [0; 12],
+        }
+    }
+}
