@@ -245,6 +245,7 @@ each t (l ∷ ls) = t l && each t ls
 
 each_member : (t : List ℕ → Bool) (l : List ℕ) (ls : List (List ℕ)) → each t ls ≡ true → Memᴰ l ls → t l ≡ true
 unfolding each
+each_member t l [] e m = elim m [ ]
 each_member t l (x ∷ ls) e (Memᴰ.head f) = rw f (and_left (t x) (each t ls) e)
 each_member t l (x ∷ ls) e (Memᴰ.tail m) = each_member t l ls (and_right (t x) (each t ls) e) m
 

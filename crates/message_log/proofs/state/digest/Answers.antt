@@ -9,13 +9,10 @@ use Rattle.message_log.proofs.state.digest.Goals as goal
 
 pub returns-then-is_sha384 : goal.returns-then-is_sha384
 returns-then-is_sha384 x c m h =
-    let i = x.before.before in
-    let a : algorithm_of c ≡ sha_384 = i.is-sha384.ensures c m h ∙ ap algorithm_by x.before.if1.true in
+    let a : algorithm_of c ≡ sha_384 = x.is_sha384.ensures c m h ∙ ap algorithm_by x.if-is_sha384.true in
     field_384 (algorithm_of c) m a (x.digest384.ensures c m h a)
 
 pub returns : goal.returns
 returns x c m h =
-    let d = x.before.before.before.before in
-    let i = d.before.before in
-    let a : algorithm_of c ≡ sha_256 = i.is-sha384.ensures c m h ∙ ap algorithm_by d.before.if1.false in
-    field_256 (algorithm_of c) m a (d.digest256.ensures c m h a) x.before.put.ensures.1
+    let a : algorithm_of c ≡ sha_256 = x.is_sha384.ensures c m h ∙ ap algorithm_by x.if-is_sha384.false in
+    field_256 (algorithm_of c) m a (x.digest256-digest.ensures c m h a) x.put.ensures.1

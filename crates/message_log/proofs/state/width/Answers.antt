@@ -8,7 +8,7 @@ use borrow.Author.Rules.{rules}
 use Rattle.message_log.proofs.state.width.Goals as goal
 
 pub returns-then-is_sha384 : goal.returns-then-is_sha384
-returns-then-is_sha384 x = (omega arith, λ c m h. sym (ap width_of (x.before.is-sha384.ensures c m h ∙ ap algorithm_by x.if1.true)))
+returns-then-is_sha384 x = (omega arith, λ c m h. sym (ap width_of (x.is_sha384.ensures c m h ∙ ap algorithm_by x.if-is_sha384.true)))
 
 pub returns-else-is_sha384 : goal.returns-else-is_sha384
-returns-else-is_sha384 x = (omega arith, λ c m h. sym (ap width_of (x.before.is-sha384.ensures c m h ∙ ap algorithm_by x.if1.false)))
+returns-else-is_sha384 x = (omega arith, λ c m h. sym (ap width_of (x.is_sha384.ensures c m h ∙ ap algorithm_by x.if-is_sha384.false)))

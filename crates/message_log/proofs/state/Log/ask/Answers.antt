@@ -1,5 +1,7 @@
 -- Each way out is a refusal, or a Finished that is due.
 -- Assumes nothing.
+use mathlib.Core.Bool.{not}
+use mathlib.Core.Path.{ap}
 use Rattle.message_log.proofs.Finishing.{secret_asks, shape_asks, kind_asks, due_asks, done_asks}
 use borrow.Author.Rules.{rules}
 use Rattle.message_log.proofs.state.Log.ask.Goals as goal
@@ -14,7 +16,7 @@ pub returns-then-judged-ne-FINISHED : goal.returns-then-judged-ne-FINISHED
 returns-then-judged-ne-FINISHED c = kind_asks _ _ _ c.if-secret-ne-SECRET.false c.judge-judged.result c.judge-judged.ensures c.if-refusal-ne0.false c.if-judged-ne-FINISHED.true _ c.refuse-then-judged-ne-FINISHED.ensures
 
 pub returns-then-not-due : goal.returns-then-not-due
-returns-then-not-due c = due_asks _ _ _ c.if-secret-ne-SECRET.false c.judge-judged.result c.judge-judged.ensures c.if-refusal-ne0.false c.if-judged-ne-FINISHED.false _ c.due.ensures c.if-not-due.true _ c.refuse-then-not-due.ensures
+returns-then-not-due c = due_asks _ _ _ c.if-secret-ne-SECRET.false c.judge-judged.result c.judge-judged.ensures c.if-refusal-ne0.false c.if-judged-ne-FINISHED.false _ c.due.ensures (ap not c.if-not-due.true) _ c.refuse-then-not-due.ensures
 
 pub returns : goal.returns
-returns c = done_asks _ _ _ c.if-secret-ne-SECRET.false c.judge-judged.result c.judge-judged.ensures c.if-refusal-ne0.false c.if-judged-ne-FINISHED.false _ c.due.ensures c.if-not-due.false
+returns c = done_asks _ _ _ c.if-secret-ne-SECRET.false c.judge-judged.result c.judge-judged.ensures c.if-refusal-ne0.false c.if-judged-ne-FINISHED.false _ c.due.ensures (ap not c.if-not-due.false)

@@ -8,6 +8,7 @@ use Rattle.message_log.proofs.Messages.{fine}
 use Rattle.message_log.proofs.Finishing.{refused_finishes, compared_finishes}
 use borrow.Author.Rules.{rules}
 use Rattle.message_log.proofs.state.Log.finish.Goals as goal
+use Rattle.message_log.proofs.state.Log.finish.Goals.{then-is_sha384, else-is_sha384}
 
 pub returns-then-refusal-ne0 : goal.returns-then-refusal-ne0
 returns-then-refusal-ne0 c = refused_finishes _ _ _ c.ask-refusal.result c.ask-refusal.ensures c.if-refusal-ne0.true
@@ -26,8 +27,8 @@ returns c =
     let asked = c.ask-refusal in
     compared_finishes _ _ _ asked.result asked.ensures c.if-refusal-ne0.false _
     (λ h s.
-    ⊎_elim
-    (λ w. w.2 ∙ w.1.ensures h s (c.is_sha384.ensures (choice_of h) (hashed h) s.hash ∙ ap algorithm_by w.0.taken))
-    (λ w. w.2 ∙ w.1.ensures h s (c.is_sha384.ensures (choice_of h) (hashed h) s.hash ∙ ap algorithm_by w.0.left))
-    c.if-is_sha384.branch)
+    elim c.if-is_sha384.branch [
+      | then-is_sha384 w ↦ w.value-is ∙ w.expected384-expected.ensures h s (c.is_sha384.ensures (choice_of h) (hashed h) s.hash ∙ ap algorithm_by w.if-is_sha384.true)
+      | else-is_sha384 w ↦ w.value-is ∙ w.expected256-expected.ensures h s (c.is_sha384.ensures (choice_of h) (hashed h) s.hash ∙ ap algorithm_by w.if-is_sha384.false)
+    ])
     c.compare.result c.compare.ensures
