@@ -9,8 +9,8 @@ ghost use Rattle.listing.specs.Listing.{lines, listing};
 use crate::feed::feed;
 use crate::text::Text;
 use cases::is_good;
-use message_log::Log;
 use message::{byte, pair};
+use message_log::Log;
 
 // What a case prints, whatever its bytes are.
 pub fn list(case: &[u8]) -> Text

@@ -7,8 +7,8 @@ ghost use Rattle.listing.specs.Steps.{Takes, Feeds};
 
 use crate::line::{Column, Line};
 use decision::{Connection, Switches, decide_server};
-use message_log::{Accepted, Log, Told};
 use message::byte;
+use message_log::{Accepted, Log, Told};
 use refusal::Refusal;
 use sessions::Table;
 

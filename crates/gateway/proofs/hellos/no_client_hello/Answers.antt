@@ -1,0 +1,7 @@
+-- Zeros.
+-- Assumes nothing.
+use borrow.Author.Rules.{rules}
+use Rattle.gateway.proofs.hellos.no_client_hello.Goals as goal
+
+pub returns : goal.returns
+returns c = rw c.no_extensions.ensures

@@ -1,0 +1,55 @@
+-- The messages one after the other.
+-- Assumes nothing.
+use mathlib.Core.Path.{◌≡◌}
+use Prim.Native.Nat.{◌+◌, ◌*◌, ◌-◌, ◌≤◌, ◌<◌}
+use lib.ListN.{length}
+use Rattle.message.specs.Numbers.{pair_at}
+use Rattle.cases.specs.Contents.{contents_size, count_of}
+use Rattle.cases.specs.Digits.{ascii}
+use Rattle.listing.specs.Texts.{header}
+use Rattle.cases.proofs.Bodies.{left, left_more, left_all}
+use Rattle.cases.proofs.Cases.{good_learnt}
+use Rattle.listing.proofs.Going.{Going, going_none, going_more, going_all}
+use Rattle.listing.proofs.Zeros.{length_of}
+use native.Mathlib.Omega.{arith}
+use borrow.Author.Rules.{rules}
+use Rattle.listing.proofs.case.lines.Goals as goal
+
+pub loop-i-init : goal.loop-i-init
+unfolding contents_size count_of header ascii
+loop-i-init c =
+    let s = c.args.case.now in
+    let g = good_learnt s c.requires in
+    let e : contents_size s ≡ 1 + 2 * c.byte-count.result = omega arith in (
+      omega arith,
+      omega (arith, length_of c.headed-text.result header c.headed-text.ensures),
+      omega (arith, g.exact, left_all s),
+      rw (← e) (going_none s _ _ c.headed-text.ensures c.fresh-log.ensures),
+    )
+
+pub slice_bounds-feed-end : goal.slice_bounds-feed-end
+unfolding count_of
+slice_bounds-feed-end c =
+    let s = c.args.case.now in
+    omega (arith, left_more s c.loop-i.i (omega arith))
+
+pub loop-i-preserved : goal.loop-i-preserved
+unfolding count_of
+loop-i-preserved c =
+    let s = c.args.case.now in
+    let i = c.loop-i.i in
+    let at = c.loop-i.at in
+    let h : i < count_of s = omega arith in
+    let p : c.pair.result ≡ pair_at s (1 + 2 * i) = c.pair.ensures.0 in
+    let e : at + c.pair.result - at ≡ pair_at s (1 + 2 * i) = omega arith in
+    let m = left_more s i h in (
+      omega arith,
+      omega arith,
+      omega arith,
+      rw p (going_more s i at _ _ _ _ c.loop-i.invariant.3 h (rw e at c.feed-fed.ensures) c.with_line-text.ensures.1),
+    )
+
+pub returns : goal.returns
+unfolding count_of
+returns c =
+    (going_all _ c.loop-i.i c.loop-i.at _ c.loop-i.log c.loop-i.invariant.3 (omega arith), omega arith)
