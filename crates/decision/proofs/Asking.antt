@@ -5,7 +5,7 @@ use mathlib.Core.Bool.{Bool}
 use mathlib.Core.List.{List}
 use mathlib.Core.Option.{Option, some}
 use Prim.Native.Nat.{ℕ}
-use lib.ListN.{length, take, drop}
+use lib.ListN.{take, drop}
 use Rattle.seqs.specs.Flag.{yes}
 use Rattle.seqs.proofs.Flag.{yes_bit}
 use Rattle.seqs.specs.Cases.{by_test}

@@ -37,8 +37,8 @@ pub(crate) fn read_block(message: &[u8], at: usize) -> Block
 
 // What the extensions from place `at` on say.
 fn described(message: &[u8], block: bool, at: usize) -> Extensions
-    requires at_in_bounds { at ≤ length message.now }
-    requires at_value { well_formed_at message.now at ≡ true }
+    requires within { at ≤ length message.now }
+    requires well_formed { well_formed_at message.now at ≡ true }
     ensures { result ≡ extensions_at block at (list_at message.now at) }
 {
     let ri = find(message, at, RI);

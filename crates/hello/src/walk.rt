@@ -60,8 +60,8 @@ pub(crate) fn walk(message: &[u8], at: usize) -> Walked
 // The place of the first type that stands before it too; 0, where no type stands, if there is none. Each type is compared with all before
 // it, up to the first repeat.
 pub(crate) fn repeat(message: &[u8], at: usize) -> usize
-    requires at_in_bounds { at ≤ length message.now }
-    requires at_value { well_formed_at message.now at ≡ true }
+    requires within { at ≤ length message.now }
+    requires well_formed { well_formed_at message.now at ≡ true }
     ensures { result ≡ repeat_at at (list_at message.now at) }
 {
     let mut found: usize = 0;
@@ -83,8 +83,8 @@ pub(crate) fn repeat(message: &[u8], at: usize) -> usize
 
 // The data of the first extension of a type; at place 0, where no data stands, if there is none.
 pub(crate) fn find(message: &[u8], at: usize, kind: usize) -> Part
-    requires at_in_bounds { at ≤ length message.now }
-    requires at_value { well_formed_at message.now at ≡ true }
+    requires within { at ≤ length message.now }
+    requires well_formed { well_formed_at message.now at ≡ true }
     ensures { (result ≡ part_of kind at (list_at message.now at)) × (result.at + result.length ≤ length message.now) }
 {
     let mut i = at;
@@ -112,8 +112,8 @@ fn known(kind: usize) -> bool
 
 // A type other than the two that are known here.
 pub(crate) fn others(message: &[u8], at: usize) -> bool
-    requires at_in_bounds { at ≤ length message.now }
-    requires at_value { well_formed_at message.now at ≡ true }
+    requires within { at ≤ length message.now }
+    requires well_formed { well_formed_at message.now at ≡ true }
     ensures { result ≡ others_of (list_at message.now at) }
 {
     let mut i = at;

@@ -17,7 +17,6 @@ use Rattle.message_log.specs.Order.{Place, turns, look, is_due}
 use Rattle.transcript.specs.Choice.{Algorithm}
 use Rattle.message_log.specs.History.{History, tells, place_of, hashed, choice_of}
 use Rattle.message_log.specs.History.History.{accepted}
-use Rattle.message_log.specs.History.Side.{client, server}
 use Rattle.message_log.specs.History.Beside.{told}
 use Rattle.message_log.specs.Standing.{Standing, Part, history_of, between, entered}
 use Rattle.message_log.specs.Standing.Standing.{whole, parted}

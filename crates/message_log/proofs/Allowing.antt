@@ -38,7 +38,7 @@ use Rattle.message_log.proofs.Heads.{accepted_is}
 use Rattle.message_log.proofs.Feeding.{below}
 use Rattle.message_log.proofs.Runs.{law}
 use Rattle.message_log.proofs.Total.{feed_answered, total}
-use Rattle.message_log.proofs.Parts.{taken, leaves_part, progress}
+use Rattle.message_log.proofs.Parts.{leaves_part, progress}
 
 good : (k : ℕ) → 1 ≤ k → k ≤ 256 → bad_allowance k ≡ false
 unfolding bad_allowance

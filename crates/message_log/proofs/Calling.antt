@@ -28,7 +28,7 @@ use Rattle.prf.proofs.Lengths.{length_verify}
 use Rattle.message_log.specs.Told.{Told}
 use Rattle.message_log.specs.Order.{Place, turns, is_due, look, finished_due}
 use Rattle.message_log.specs.Order.Place.{beginning}
-use Rattle.message_log.specs.History.{Beside, History, tells, place_of, choice_of, suite_of, resumed, complete}
+use Rattle.message_log.specs.History.{Beside, History, tells, place_of, choice_of, suite_of, resumed}
 use Rattle.message_log.specs.History.History.{fresh, accepted}
 use Rattle.message_log.specs.History.Beside.{told, under}
 use Rattle.message_log.specs.Standing.Standing.{whole}

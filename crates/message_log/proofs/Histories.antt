@@ -13,7 +13,7 @@ use Rattle.refusal.specs.First.{first_of}
 use Rattle.message.specs.Frame.{kind_of}
 use Rattle.message_log.specs.Order.{Place, turns, is_due, look}
 use Rattle.message_log.specs.Order.Place.{beginning, client_hello, server_hello, server_certificate, server_key_exchange, certificate_request, hello_done, hello_done_requested, client_certificate, key_exchange, key_exchange_certified, certificate_verify, client_first, complete_full, resuming_hello, server_first, complete_resumed, nowhere}
-use Rattle.message_log.specs.History.{History, tells, place_of, exchanged, resumed, complete}
+use Rattle.message_log.specs.History.{History, tells, place_of, resumed, complete}
 use Rattle.message_log.specs.History.History.{fresh, accepted}
 use Rattle.message_log.specs.Standing.Standing.{whole}
 use Rattle.message_log.specs.Calls.{out_of_turn, in_order, session_number}

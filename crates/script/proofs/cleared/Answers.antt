@@ -1,7 +1,6 @@
 -- A clearing.
 -- Assumes nothing.
 use Rattle.script.proofs.Laws.{cleared_steps}
-use borrow.Author.Rules.{rules}
 use Rattle.script.proofs.cleared.Goals as goal
 
 pub returns : goal.returns

@@ -1,7 +1,6 @@
 -- The number held.
 -- Assumes nothing.
 use Rattle.script.proofs.Laws.{counted_steps}
-use borrow.Author.Rules.{rules}
 use Rattle.script.proofs.counted.Goals as goal
 
 pub returns : goal.returns

@@ -5,7 +5,6 @@ use native.Mathlib.Omega.{arith}
 use lib.ListN.{length}
 use lib.Seq.{length-take-le}
 use Rattle.script.proofs.Laws.{lent_front, lent_length_is, looked_steps, looked_bytes}
-use borrow.Author.Rules.{rules}
 use Rattle.script.proofs.looked.Goals as goal
 
 pub slice_bounds-look_up-end : goal.slice_bounds-look_up-end

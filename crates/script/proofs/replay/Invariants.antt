@@ -1,17 +1,9 @@
 -- The answers to the first k calls are written, and the table keeps the book after them.
 -- Assumes nothing.
-use mathlib.Core.Path.{◌≡◌, ◌∙◌, ap}
-use Prim.Native.Nat.{◌+◌, ◌-◌, ◌*◌, ◌/◌, ◌≤◌}
-use native.Mathlib.Numerals.{add-one}
-use lib.ListN.{length, take, drop, length-take, length-drop}
-use mathlib.Core.List.{◌++◌}
-use Rattle.refusal.specs.Table.{refusal_of}
+use Prim.Native.Nat.{◌-◌, ◌*◌, ◌≤◌}
+use lib.ListN.{length}
 use Rattle.sessions.specs.Keeps.{Keeps}
-use Rattle.script.specs.Script.{call_at}
-use Rattle.script.specs.Steps.{Steps}
-use Rattle.script.proofs.Laws.{call_length, book_none, said, book_at, said_more, book_more, Built, built_none, built_more, built_all, too_short}
-use native.Mathlib.Omega.{arith}
-use borrow.Author.Rules.{rules}
+use Rattle.script.proofs.Laws.{said, book_at, Built}
 use Rattle.script.proofs.replay.Given as goal
 
 abbrev pub invariant-loop-k : goal.invariant-loop-k

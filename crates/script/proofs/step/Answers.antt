@@ -1,7 +1,6 @@
 -- The first byte says which call.
 -- Assumes nothing.
 use Rattle.script.proofs.Laws.{call_store, call_look_up, call_withdraw, call_held, call_clear}
-use borrow.Author.Rules.{rules}
 use Rattle.script.proofs.step.Goals as goal
 
 pub returns-in-0 : goal.returns-in-0

@@ -1,7 +1,6 @@
 -- A store.
 -- Assumes nothing.
 use Rattle.script.proofs.Laws.{stored_steps}
-use borrow.Author.Rules.{rules}
 use Rattle.script.proofs.stored.Goals as goal
 
 pub returns : goal.returns

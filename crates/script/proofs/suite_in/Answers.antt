@@ -1,7 +1,6 @@
 -- The bytes at the suite's places, the high one first.
 -- Assumes nothing.
 use native.Mathlib.Omega.{arith}
-use borrow.Author.Rules.{rules}
 use Rattle.script.proofs.suite_in.Goals as goal
 
 pub returns : goal.returns

@@ -1,7 +1,6 @@
 -- A withdrawal.
 -- Assumes nothing.
 use Rattle.script.proofs.Laws.{withdrew_steps}
-use borrow.Author.Rules.{rules}
 use Rattle.script.proofs.withdrew.Goals as goal
 
 pub returns : goal.returns

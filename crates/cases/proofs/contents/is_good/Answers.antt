@@ -1,14 +1,13 @@
 -- The end of the bodies is summed up: what is left of the lengths makes up the whole.
 -- Assumes nothing.
-use mathlib.Core.Path.{◌≡◌, refl, sym, ◌∙◌, ap}
-use Prim.Native.Nat.{ℕ, ◌+◌, ◌-◌, ◌*◌, ◌≤◌}
+use mathlib.Core.Path.{◌≡◌, sym, ◌∙◌, ap}
+use Prim.Native.Nat.{ℕ, ◌+◌}
 use lib.Dec.{eqb}
 use lib.ListN.{length}
 use Rattle.cases.specs.Contents.{contents_size, count_of, lengths_of, total}
-use Rattle.cases.proofs.Bodies.{left, left_more, left_end, left_all}
+use Rattle.cases.proofs.Bodies.{left_more, left_end, left_all}
 use Rattle.cases.proofs.Cases.{bad_long, bad_short, good_exact}
 use native.Mathlib.Omega.{arith}
-use borrow.Author.Rules.{rules}
 use Rattle.cases.proofs.contents.is_good.Goals as goal
 
 pub returns-then-case-gt-LONGEST : goal.returns-then-case-gt-LONGEST

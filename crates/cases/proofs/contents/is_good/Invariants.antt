@@ -1,14 +1,8 @@
 -- The end of the bodies is summed up: what is left of the lengths makes up the whole.
 -- Assumes nothing.
-use mathlib.Core.Path.{◌≡◌, refl, sym, ◌∙◌, ap}
-use Prim.Native.Nat.{ℕ, ◌+◌, ◌-◌, ◌*◌, ◌≤◌}
-use lib.Dec.{eqb}
-use lib.ListN.{length}
-use Rattle.cases.specs.Contents.{contents_size, count_of, lengths_of, total}
-use Rattle.cases.proofs.Bodies.{left, left_more, left_end, left_all}
-use Rattle.cases.proofs.Cases.{bad_long, bad_short, good_exact}
-use native.Mathlib.Omega.{arith}
-use borrow.Author.Rules.{rules}
+use mathlib.Core.Path.{◌≡◌}
+use Prim.Native.Nat.{◌+◌, ◌-◌, ◌*◌, ◌≤◌}
+use Rattle.cases.proofs.Bodies.{left}
 use Rattle.cases.proofs.contents.is_good.Given as goal
 
 abbrev pub invariant-loop-i : goal.invariant-loop-i

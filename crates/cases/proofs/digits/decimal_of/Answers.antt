@@ -3,7 +3,6 @@
 use native.Mathlib.Omega.{arith}
 use Rattle.cases.specs.Spelled.{spelled}
 use Rattle.cases.proofs.Decimals.{one_digit, two_digits, three_digits, four_digits, five_digits}
-use borrow.Author.Rules.{rules}
 use Rattle.cases.proofs.digits.decimal_of.Goals as goal
 
 pub returns-then-n-lt10 : goal.returns-then-n-lt10

@@ -1,13 +1,10 @@
 -- From type to type: what is written, with the lines of the types that are left behind it, is the whole.
 -- Assumes nothing.
 use mathlib.Core.Path.{ap}
-use Prim.Native.Nat.{◌-◌, ◌≤◌}
-use Rattle.comparing.specs.Differences.{types_from, extension_differences}
+use Rattle.comparing.specs.Differences.{extension_differences}
 use Rattle.comparing.specs.Comparison.{text}
-use Rattle.comparing.specs.Steps.{handed}
-use Rattle.comparing.proofs.Putting.{Writing, writing_all, writing_more, writing_none}
+use Rattle.comparing.proofs.Putting.{writing_all, writing_more, writing_none}
 use Rattle.comparing.proofs.Types.{lower_from, types_text, types_room, types_end, types_done}
-use borrow.Author.Rules.{rules}
 use native.Mathlib.Omega.{arith}
 use Rattle.comparing.proofs.extensions.put_extensions.Goals as goal
 

@@ -4,7 +4,6 @@ use mathlib.Core.Path.{sym, ◌∙◌}
 use Rattle.hello.proofs.Learnt.{client_learnt, client_fault}
 use Rattle.hello.proofs.Handed.{handed}
 use Rattle.comparing.proofs.Handing.{handed_is}
-use borrow.Author.Rules.{rules}
 use Rattle.comparing.proofs.fields.as_client.Goals as goal
 
 pub returns-in_default : goal.returns-in_default

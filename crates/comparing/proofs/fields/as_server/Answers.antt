@@ -4,7 +4,6 @@ use mathlib.Core.Path.{sym, ◌∙◌}
 use Rattle.hello.proofs.Learnt.{server_learnt, server_fault}
 use Rattle.hello.proofs.Handed.{handed}
 use Rattle.comparing.proofs.Handing.{handed_is}
-use borrow.Author.Rules.{rules}
 use native.Mathlib.Omega.{arith}
 use Rattle.comparing.proofs.fields.as_server.Goals as goal
 

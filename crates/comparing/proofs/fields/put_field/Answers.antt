@@ -5,7 +5,6 @@ use Rattle.comparing.specs.Differences.{unless}
 use Rattle.comparing.specs.Comparison.{line_of, text}
 use Rattle.comparing.proofs.Putting.{puts_none}
 use Rattle.comparing.proofs.Texts.{text_one}
-use borrow.Author.Rules.{rules}
 use Rattle.comparing.proofs.fields.put_field.Goals as goal
 
 pub returns-then-same : goal.returns-then-same

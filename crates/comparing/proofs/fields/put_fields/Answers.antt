@@ -4,7 +4,6 @@ use Rattle.cases.specs.Digits.{ascii}
 use Rattle.comparing.specs.Steps.{hello_at}
 use Rattle.comparing.proofs.Putting.{puts_long}
 use Rattle.comparing.proofs.Texts.{fields_text, fields_long, puts_five}
-use borrow.Author.Rules.{rules}
 use native.Mathlib.Omega.{arith}
 use Rattle.comparing.proofs.fields.put_fields.Goals as goal
 

@@ -1,13 +1,12 @@
 -- Line by line: what is written, with the lines that are left behind it, is the whole.
 -- Assumes nothing.
-use mathlib.Core.Path.{◌≡◌, refl}
+use mathlib.Core.Path.{refl}
 use mathlib.Core.List.{[]}
-use Prim.Native.Nat.{◌+◌, ◌-◌, ◌≤◌}
+use Prim.Native.Nat.{◌+◌, ◌-◌}
 use Rattle.comparing.specs.Comparison.{line}
 use Rattle.comparing.specs.Steps.{lines_from}
-use Rattle.comparing.proofs.Putting.{Writing, writing_all, writing_room, writing_more, writing_none}
+use Rattle.comparing.proofs.Putting.{writing_all, writing_room, writing_more, writing_none}
 use Rattle.comparing.proofs.Texts.{lines_more, lines_end}
-use borrow.Author.Rules.{rules}
 use native.Mathlib.Omega.{arith}
 use Rattle.comparing.proofs.lines.put_alone.Goals as goal
 

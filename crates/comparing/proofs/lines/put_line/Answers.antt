@@ -1,7 +1,6 @@
 -- A line, part by part.
 -- Assumes nothing.
 use native.Mathlib.Omega.{arith}
-use borrow.Author.Rules.{rules}
 use Rattle.cases.specs.Digits.{ascii}
 use Rattle.comparing.specs.Comparison.{line}
 use Rattle.comparing.proofs.Texts.{line_long, puts_five}

@@ -1,10 +1,7 @@
 -- As far as both go on alike.
 -- Assumes nothing.
-use mathlib.Core.Path.{◌≡◌, sym}
+use mathlib.Core.Path.{sym}
 use native.Mathlib.Nat.{zero-add}
-use Prim.Native.Nat.{◌+◌, ◌-◌, ◌≤◌}
-use lib.ListN.{length, drop}
-use Rattle.comparing.specs.Differences.{common}
 use Rattle.comparing.proofs.Beginnings.{common_first, common_second, common_other, common_more}
 use native.Mathlib.Omega.{arith}
 use Rattle.comparing.proofs.messages.common.Goals as goal

@@ -5,7 +5,6 @@ use Rattle.comparing.specs.Comparison.{text}
 use Rattle.comparing.specs.Steps.{hello_at, reading_at}
 use Rattle.comparing.proofs.Putting.{puts_none, puts_both}
 use Rattle.comparing.proofs.Texts.{text_append, two_long}
-use borrow.Author.Rules.{rules}
 use native.Mathlib.Omega.{arith}
 use Rattle.comparing.proofs.messages.put_hellos.Goals as goal
 

@@ -8,7 +8,6 @@ use Rattle.comparing.specs.Differences.{read_differences, message_differences}
 use Rattle.comparing.specs.Comparison.{text}
 use Rattle.comparing.proofs.Putting.{puts_none, puts_both}
 use Rattle.comparing.proofs.Reading.{seen_within, seen_text, byte_line, differ_text, differ_long}
-use borrow.Author.Rules.{rules}
 use native.Mathlib.Omega.{arith}
 use Rattle.comparing.proofs.messages.put_message.Goals as goal
 

@@ -8,7 +8,6 @@ use Rattle.comparing.specs.Comparison.{comparison}
 use Rattle.comparing.specs.Longest.{longest}
 use Rattle.comparing.specs.Promise.{too_short}
 use Rattle.comparing.proofs.Longest.{fits}
-use borrow.Author.Rules.{rules}
 use native.Mathlib.Omega.{arith}
 use Rattle.comparing.proofs.whole.compare.Goals as goal
 

@@ -2,11 +2,9 @@
 -- Assumes nothing.
 use mathlib.Core.Path.{sym, ◌∙◌, ap}
 use lib.ListN.{length}
-use borrow.Author.Tests.{not-true, not-false}
 use Rattle.cases.specs.Digits.{ascii}
 use Rattle.comparing.specs.Comparison.{first_refused, second_refused}
 use Rattle.comparing.proofs.Judging.{first_bad, second_bad, both_good}
-use borrow.Author.Rules.{rules}
 use native.Mathlib.Omega.{arith}
 use Rattle.comparing.proofs.whole.put_comparison.Goals as goal
 

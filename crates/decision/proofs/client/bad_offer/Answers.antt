@@ -3,7 +3,6 @@
 use mathlib.Core.Path.{sym, ◌∙◌, ap}
 use mathlib.Core.Bool.{not}
 use Rattle.decision.proofs.Telling.{offer_long, offer_none, offer_lent, offer_unlent}
-use borrow.Author.Rules.{rules}
 use Rattle.decision.proofs.client.bad_offer.Goals as goal
 
 pub returns-then-offered-gt32 : goal.returns-then-offered-gt32

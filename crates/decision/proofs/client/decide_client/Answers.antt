@@ -7,7 +7,6 @@ use Rattle.decision.specs.Connection.{refusing}
 use Rattle.decision.specs.Client.{lent_of}
 use Rattle.decision.specs.Steps.{weighed_in}
 use Rattle.decision.proofs.Telling.{decide_offer, decide_fault, decide_told}
-use borrow.Author.Rules.{rules}
 use Rattle.decision.proofs.client.decide_client.Goals as goal
 
 pub returns-then-bad_offer : goal.returns-then-bad_offer

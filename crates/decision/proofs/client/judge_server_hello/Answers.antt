@@ -3,11 +3,9 @@
 use mathlib.Core.Path.{◌≡◌, ◌∙◌, ap}
 use Prim.Native.Nat.{◌+◌, ◌-◌}
 use native.Mathlib.Omega.{arith}
-use lib.ListN.{length}
 use Rattle.hello.proofs.Learnt.{server_learnt}
 use Rattle.decision.specs.Steps.{client_plain, weighed_in}
 use Rattle.decision.proofs.Asking.{told_is}
-use borrow.Author.Rules.{rules}
 use Rattle.decision.proofs.client.judge_server_hello.Goals as goal
 
 pub overflow_add-end : goal.overflow_add-end

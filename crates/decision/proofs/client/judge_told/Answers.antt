@@ -10,7 +10,6 @@ use Rattle.decision.specs.Connection.{Outcome, refusing}
 use Rattle.decision.specs.Client.{suite_differs, resumption, fullness, client_outcome}
 use Rattle.decision.specs.Steps.{ri_of, told_of, weighed_in, decided_in}
 use Rattle.decision.proofs.Telling.{told_others, told_turn, told_suite, told_done, flag_told}
-use borrow.Author.Rules.{rules}
 use Rattle.decision.proofs.client.judge_told.Goals as goal
 
 pub returns-then-others : goal.returns-then-others

@@ -5,7 +5,6 @@ use mathlib.Core.List.{List}
 use Prim.Native.Nat.{ℕ}
 use Rattle.octets.specs.Same.{same}
 use Rattle.decision.proofs.Telling.{names_none, names_some}
-use borrow.Author.Rules.{rules}
 use Rattle.decision.proofs.client.names.Goals as goal
 
 pub returns-then-offered-eq0 : goal.returns-then-offered-eq0

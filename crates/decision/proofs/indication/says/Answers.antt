@@ -2,7 +2,6 @@
 -- Assumes nothing.
 use mathlib.Core.Path.{◌∙◌}
 use Rattle.decision.proofs.Turns.{says_ri}
-use borrow.Author.Rules.{rules}
 use Rattle.decision.proofs.indication.says.Goals as goal
 
 pub returns-then-indicated : goal.returns-then-indicated

@@ -2,7 +2,6 @@
 -- Assumes nothing.
 use mathlib.Core.Path.{sym, ◌∙◌}
 use Rattle.decision.proofs.Turns.{server_first, server_closed, server_signal, server_later}
-use borrow.Author.Rules.{rules}
 use Rattle.decision.proofs.indication.server_indication.Goals as goal
 
 pub returns-then-wrong_first : goal.returns-then-wrong_first

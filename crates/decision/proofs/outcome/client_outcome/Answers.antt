@@ -1,6 +1,5 @@
 -- The client: resumed or full.
 -- Assumes nothing.
-use borrow.Author.Rules.{rules}
 use Rattle.decision.proofs.outcome.client_outcome.Goals as goal
 
 pub returns-then-resumes : goal.returns-then-resumes

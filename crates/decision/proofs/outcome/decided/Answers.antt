@@ -5,7 +5,6 @@ use Rattle.refusal.specs.Table.{refusal_of}
 use Rattle.decision.specs.Connection.{refusing, refused_by, decided}
 use Rattle.decision.specs.Steps.{outcome_in, decided_in}
 use Rattle.decision.specs.declared.outcome.Reached.{Reached}
-use borrow.Author.Rules.{rules}
 use Rattle.decision.proofs.outcome.decided.Goals as goal
 
 pub returns-in-Forbidden : goal.returns-in-Forbidden

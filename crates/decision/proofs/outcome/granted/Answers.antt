@@ -1,6 +1,5 @@
 -- An outcome with its bars.
 -- Assumes nothing.
-use borrow.Author.Rules.{rules}
 use Rattle.decision.proofs.outcome.granted.Goals as goal
 
 pub returns : goal.returns

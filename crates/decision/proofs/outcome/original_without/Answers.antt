@@ -2,7 +2,6 @@
 -- Assumes nothing.
 use mathlib.Core.Path.{sym, ◌∙◌}
 use Rattle.decision.proofs.Outcomes.{row_without_with, row_without_without}
-use borrow.Author.Rules.{rules}
 use Rattle.decision.proofs.outcome.original_without.Goals as goal
 
 pub returns-then-ems : goal.returns-then-ems

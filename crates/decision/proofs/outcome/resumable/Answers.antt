@@ -1,6 +1,5 @@
 -- Of a session, with EMS or without it.
 -- Assumes nothing.
-use borrow.Author.Rules.{rules}
 use Rattle.decision.proofs.outcome.resumable.Goals as goal
 
 pub returns-then-original_ems : goal.returns-then-original_ems

@@ -2,7 +2,6 @@
 -- Assumes nothing.
 use mathlib.Core.Path.{sym, ◌∙◌}
 use Rattle.decision.proofs.Outcomes.{resumed_ems_lem, resumed_lost, resumed_gained, resumed_legacy_lem}
-use borrow.Author.Rules.{rules}
 use Rattle.decision.proofs.outcome.resumed.Goals as goal
 
 pub returns-then-ems : goal.returns-then-ems

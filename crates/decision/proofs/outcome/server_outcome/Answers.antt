@@ -5,7 +5,6 @@ use Rattle.sessions.specs.declared.calls.Known.{Known}
 use Rattle.decision.specs.Server.{server_outcome}
 use Rattle.decision.specs.Steps.{original_in}
 use Rattle.decision.proofs.Outcomes.{row_none}
-use borrow.Author.Rules.{rules}
 use Rattle.decision.proofs.outcome.server_outcome.Goals as goal
 
 pub returns-in-Nothing : goal.returns-in-Nothing

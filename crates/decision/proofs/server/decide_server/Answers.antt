@@ -5,7 +5,6 @@ use Rattle.hello.specs.Places.{client_refusal}
 use Rattle.hello.proofs.Learnt.{client_learnt, client_fault}
 use Rattle.decision.specs.Connection.{refusing}
 use Rattle.decision.proofs.Serving.{server_axle, server_faulted, server_judged}
-use borrow.Author.Rules.{rules}
 use Rattle.decision.proofs.server.decide_server.Goals as goal
 
 pub returns-then-is_bad : goal.returns-then-is_bad

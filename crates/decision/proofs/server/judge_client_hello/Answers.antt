@@ -3,11 +3,9 @@
 use mathlib.Core.Path.{◌≡◌}
 use Prim.Native.Nat.{◌+◌, ◌-◌}
 use native.Mathlib.Omega.{arith}
-use lib.ListN.{length}
 use Rattle.hello.proofs.Learnt.{client_learnt}
 use Rattle.decision.proofs.Asking.{asked_is}
 use Rattle.decision.proofs.Judging.{plain_same}
-use borrow.Author.Rules.{rules}
 use Rattle.decision.proofs.server.judge_client_hello.Goals as goal
 
 pub overflow_add-end : goal.overflow_add-end

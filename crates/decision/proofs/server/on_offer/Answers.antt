@@ -4,7 +4,6 @@ use mathlib.Core.Path.{sym, ◌∙◌, ap}
 use Rattle.sessions.specs.declared.calls.Known.{Known}
 use Rattle.decision.specs.Server.{on_offer}
 use Rattle.decision.specs.Steps.{original_in}
-use borrow.Author.Rules.{rules}
 use Rattle.decision.proofs.server.on_offer.Goals as goal
 
 pub returns-in_default : goal.returns-in_default

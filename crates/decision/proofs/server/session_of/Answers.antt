@@ -8,7 +8,6 @@ use Rattle.hello.specs.Places.{client_places}
 use Rattle.hello.specs.declared.client.ClientHello.{ClientHello}
 use Rattle.hello.proofs.Learnt.{client_learnt}
 use Rattle.decision.proofs.Serving.{session_none, session_found}
-use borrow.Author.Rules.{rules}
 use Rattle.decision.proofs.server.session_of.Goals as goal
 
 pub returns-then-length-eq0 : goal.returns-then-length-eq0

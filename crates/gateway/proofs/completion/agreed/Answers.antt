@@ -2,7 +2,6 @@
 -- Assumes nothing.
 use mathlib.Core.Path.{sym, ◌∙◌}
 use Rattle.gateway.proofs.Completing.{incomplete, undecided, disagreeing, agreeing}
-use borrow.Author.Rules.{rules}
 use Rattle.gateway.proofs.completion.agreed.Goals as goal
 
 pub returns-then-finished-eq0 : goal.returns-then-finished-eq0

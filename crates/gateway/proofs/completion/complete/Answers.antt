@@ -1,7 +1,6 @@
 -- Completion by value: what the log says of its Finished goes to the three tests.
 -- Assumes nothing.
 use Rattle.gateway.proofs.Completing.{completes}
-use borrow.Author.Rules.{rules}
 use Rattle.gateway.proofs.completion.complete.Goals as goal
 
 pub returns : goal.returns

@@ -2,7 +2,6 @@
 -- Assumes nothing.
 use mathlib.Core.Path.{sym, ◌∙◌, ap}
 use Rattle.gateway.specs.Hellos.{client_reading}
-use borrow.Author.Rules.{rules}
 use Rattle.gateway.proofs.hellos.axle_read_client_hello.Goals as goal
 
 pub returns-in-Read : goal.returns-in-Read

@@ -2,7 +2,6 @@
 -- Assumes nothing.
 use mathlib.Core.Path.{sym, ◌∙◌, ap}
 use Rattle.gateway.specs.Hellos.{server_reading}
-use borrow.Author.Rules.{rules}
 use Rattle.gateway.proofs.hellos.axle_read_server_hello.Goals as goal
 
 pub returns-in-Read : goal.returns-in-Read

@@ -1,6 +1,5 @@
 -- Zeros.
 -- Assumes nothing.
-use borrow.Author.Rules.{rules}
 use Rattle.gateway.proofs.hellos.no_client_hello.Goals as goal
 
 pub returns : goal.returns

@@ -30,7 +30,7 @@ returns-in_default-laid c =
     t ∙ out_malformed client_reader _ (is_client (goal.at.returns-in_default-laid c).In-Whole) (subst (ClientLays c.args.message.now 4) t c.lay_client-laid.ensures)
 
 pub repeat-place-requires : goal.repeat-place-requires
-repeat-place-requires c = let l = laid (goal.at.repeat-place-requires c).In-Read in record { at_in_bounds = l.3.0; at_value = l.3.1 }
+repeat-place-requires c = let l = laid (goal.at.repeat-place-requires c).In-Read in record { within = l.3.0; well_formed = l.3.1 }
 
 pub returns-then-place-ne0 : goal.returns-then-place-ne0
 unfolding client_reader

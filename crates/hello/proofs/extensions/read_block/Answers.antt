@@ -11,7 +11,7 @@ use Rattle.hello.proofs.extensions.read_block.Goals as goal
 pub described-requires : goal.described-requires
 described-requires c =
     let a = c.args in
-    record { at_in_bounds = omega arith; at_value = whole_end a.message.now a.at (omega arith) }
+    record { within = omega arith; well_formed = whole_end a.message.now a.at (omega arith) }
 
 pub returns-then-at-message : goal.returns-then-at-message
 returns-then-at-message c =
@@ -31,7 +31,7 @@ returns-then-pair-message c =
 
 pub described-requires-in-Whole : goal.described-requires-in-Whole
 described-requires-in-Whole c =
-    record { at_in_bounds = omega arith; at_value = subst (Walks _ _) c.in-Whole.is c.walk.ensures }
+    record { within = omega arith; well_formed = subst (Walks _ _) c.in-Whole.is c.walk.ensures }
 
 pub returns-in-Broken : goal.returns-in-Broken
 returns-in-Broken c =

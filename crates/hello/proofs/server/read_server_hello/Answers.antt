@@ -31,7 +31,7 @@ returns-in_default-laid c =
     t ∙ out_malformed server_reader _ (is_server (goal.at.returns-in_default-laid c).In-Whole) (subst (ServerLays c.args.message.now 4) t c.lay_server-laid.ensures)
 
 pub repeat-place-requires : goal.repeat-place-requires
-repeat-place-requires c = let l = laid (goal.at.repeat-place-requires c).In-Read in record { at_in_bounds = l.3.0; at_value = l.3.1 }
+repeat-place-requires c = let l = laid (goal.at.repeat-place-requires c).In-Read in record { within = l.3.0; well_formed = l.3.1 }
 
 pub returns-then-place-ne0 : goal.returns-then-place-ne0
 unfolding server_reader

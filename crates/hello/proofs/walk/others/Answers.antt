@@ -8,7 +8,7 @@ use native.Mathlib.Omega.{arith}
 use Rattle.hello.proofs.walk.others.Goals as goal
 
 pub loop-i-init : goal.loop-i-init
-loop-i-init c = (c.requires.at_in_bounds, c.requires.at_value, refl)
+loop-i-init c = (c.requires.within, c.requires.well_formed, refl)
 
 pub returns-then-not-known : goal.returns-then-not-known
 returns-then-not-known c =

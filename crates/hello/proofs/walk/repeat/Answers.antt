@@ -13,7 +13,7 @@ use native.Mathlib.Omega.{arith}
 use Rattle.hello.proofs.walk.repeat.Goals as goal
 
 pub all-init : goal.all-init
-all-init c = ([], refl, between_none c.args.message.now c.args.at c.requires.at_in_bounds c.requires.at_value, refl)
+all-init c = ([], refl, between_none c.args.message.now c.args.at c.requires.within c.requires.well_formed, refl)
 
 pub loop-j-init : goal.loop-j-init
 loop-j-init c =

@@ -3,7 +3,6 @@
 use mathlib.Core.Bool.{false}
 use Rattle.message_log.specs.Order.{finished_due}
 use Rattle.message_log.proofs.Turns.{due_number}
-use borrow.Author.Rules.{rules}
 use Rattle.message_log.proofs.order.finished_due.Goals as goal
 
 pub returns : goal.returns

@@ -6,7 +6,6 @@ use Rattle.message_log.specs.Order.{turns}
 use Rattle.message_log.specs.Order.Place.{beginning, client_hello, server_hello, server_certificate, server_key_exchange, certificate_request, hello_done, hello_done_requested, client_certificate, key_exchange, key_exchange_certified, certificate_verify, client_first, resuming_hello, server_first}
 use Rattle.message_log.specs.Stands.{number}
 use Rattle.message_log.proofs.Turns.{leads, number_look, arm, quiet}
-use borrow.Author.Rules.{rules}
 use Rattle.message_log.proofs.order.next.Goals as goal
 
 pub returns-in-0 : goal.returns-in-0

@@ -5,7 +5,6 @@ use Rattle.message_log.specs.Order.{turns}
 use Rattle.message_log.specs.Order.Place.{server_certificate, server_key_exchange}
 use Rattle.message_log.specs.Stands.{number}
 use Rattle.message_log.proofs.Turns.{leads, number_look, by_row}
-use borrow.Author.Rules.{rules}
 use Rattle.message_log.proofs.order.past_certificate.Goals as goal
 
 pub returns : goal.returns

@@ -5,7 +5,6 @@ use Rattle.message_log.specs.Order.{turns}
 use Rattle.message_log.specs.Order.Place.{server_key_exchange}
 use Rattle.message_log.specs.Stands.{number}
 use Rattle.message_log.proofs.Turns.{leads, by_row}
-use borrow.Author.Rules.{rules}
 use Rattle.message_log.proofs.order.past_key_exchange.Goals as goal
 
 pub returns : goal.returns

@@ -5,7 +5,6 @@ use native.Mathlib.Omega.{arith}
 use lib.ListN.{length, drop, length-drop}
 use lib.Seq.{take_all}
 use Rattle.message.specs.Frame.{body_of}
-use borrow.Author.Rules.{rules}
 use Rattle.message_log.proofs.shape.carries.Goals as goal
 
 pub returns : goal.returns

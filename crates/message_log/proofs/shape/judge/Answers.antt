@@ -2,7 +2,6 @@
 -- Assumes nothing.
 use mathlib.Core.Path.{sym, ◌∙◌}
 use Rattle.message_log.proofs.Messages.{judge_refused, judge_right, judge_wrong}
-use borrow.Author.Rules.{rules}
 use Rattle.message_log.proofs.shape.judge.Goals as goal
 
 pub returns-in-Refused : goal.returns-in-Refused

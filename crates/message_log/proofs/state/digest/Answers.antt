@@ -4,7 +4,6 @@ use mathlib.Core.Path.{◌≡◌, ◌∙◌, ap}
 use Rattle.transcript.specs.Choice.{algorithm_by, algorithm_of}
 use Rattle.transcript.specs.Choice.Algorithm.{sha_256, sha_384}
 use Rattle.message_log.proofs.Fields.{field_384, field_256}
-use borrow.Author.Rules.{rules}
 use Rattle.message_log.proofs.state.digest.Goals as goal
 
 pub returns-then-is_sha384 : goal.returns-then-is_sha384

@@ -4,7 +4,6 @@ use mathlib.Core.Path.{sym, ◌∙◌, ap}
 use native.Mathlib.Omega.{arith}
 use Rattle.transcript.specs.Choice.{algorithm_by}
 use Rattle.message_log.specs.Suite.{width_of}
-use borrow.Author.Rules.{rules}
 use Rattle.message_log.proofs.state.width.Goals as goal
 
 pub returns-then-is_sha384 : goal.returns-then-is_sha384

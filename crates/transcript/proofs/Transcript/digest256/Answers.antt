@@ -1,6 +1,5 @@
 -- The digest of what is carried.
 -- Assumes nothing.
-use borrow.Author.Rules.{rules}
 use Rattle.transcript.proofs.Carrying.{carries_256}
 use Rattle.transcript.proofs.Transcript.digest256.Goals as goal
 

@@ -1,6 +1,5 @@
 -- The digest of what is carried.
 -- Assumes nothing.
-use borrow.Author.Rules.{rules}
 use Rattle.transcript.proofs.Carrying.{carries_384}
 use Rattle.transcript.proofs.Transcript.digest384.Goals as goal
 

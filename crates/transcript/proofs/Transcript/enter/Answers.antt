@@ -1,7 +1,6 @@
 -- By what is chosen: one hash takes the bytes, or both, and behind them what is told is chosen.
 -- Assumes nothing.
 use Rattle.transcript.proofs.Entering.{enters_384, enters_256, enters_both, goes_on, untold, chooses_256, chooses_384}
-use borrow.Author.Rules.{rules}
 use Rattle.transcript.proofs.Transcript.enter.Goals as goal
 
 pub returns-then-self-eq-SHA384 : goal.returns-then-self-eq-SHA384

@@ -1,7 +1,6 @@
 -- The smaller of what is left and the room of the allowance.
 -- Assumes nothing.
 use Rattle.transcript.proofs.Letting.{lets_384, lets_256}
-use borrow.Author.Rules.{rules}
 use Rattle.transcript.proofs.Transcript.lets_in.Goals as goal
 
 pub returns-then-self-eq-SHA384 : goal.returns-then-self-eq-SHA384

@@ -1,7 +1,6 @@
 -- A message that is not in turn leaves the log as it was, and so does a HelloRequest; any other is taken.
 -- Assumes nothing.
 use Rattle.message_log.proofs.Accepting.{refused_accepts, request_accepts, done_accepts}
-use borrow.Author.Rules.{rules}
 use Rattle.message_log.proofs.state.Log.accept.Goals as goal
 
 pub returns-then-refusal-ne0 : goal.returns-then-refusal-ne0

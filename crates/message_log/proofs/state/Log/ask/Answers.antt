@@ -3,7 +3,6 @@
 use mathlib.Core.Bool.{not}
 use mathlib.Core.Path.{ap}
 use Rattle.message_log.proofs.Finishing.{secret_asks, shape_asks, kind_asks, due_asks, done_asks}
-use borrow.Author.Rules.{rules}
 use Rattle.message_log.proofs.state.Log.ask.Goals as goal
 
 pub returns-then-secret-ne-SECRET : goal.returns-then-secret-ne-SECRET

@@ -1,6 +1,5 @@
 -- The one that is told, behind a ServerHello that is whole, and else what is carried.
 -- Assumes nothing.
-use borrow.Author.Rules.{rules}
 use Rattle.message_log.proofs.state.Log.carried.Goals as goal
 
 pub returns : goal.returns

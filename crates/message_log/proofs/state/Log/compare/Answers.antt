@@ -1,8 +1,6 @@
 -- The value is compared, and the message taken where it is equal.
 -- Assumes nothing.
 use Rattle.message_log.proofs.Finishing.{compares_differs, compares_equal}
-use borrow.Author.Tests.{not-true, not-false}
-use borrow.Author.Rules.{rules}
 use Rattle.message_log.proofs.state.Log.compare.Goals as goal
 
 pub returns-then-not-equal : goal.returns-then-not-equal

@@ -1,7 +1,6 @@
 -- Between parts no Finished is in turn.
 -- Assumes nothing.
 use Rattle.message_log.proofs.Finishing.{due_between, due_whole}
-use borrow.Author.Rules.{rules}
 use Rattle.message_log.proofs.state.Log.due.Goals as goal
 
 pub returns-then-self-eq0 : goal.returns-then-self-eq0

@@ -1,7 +1,6 @@
 -- By the bytes that are left: a part, or the last and then by the type of the message.
 -- Assumes nothing.
 use Rattle.message_log.proofs.Entered.{part_entered, exchange_entered, other_entered}
-use borrow.Author.Rules.{rules}
 use Rattle.message_log.proofs.state.Log.entered.Goals as goal
 
 pub returns-then-left-ne0 : goal.returns-then-left-ne0

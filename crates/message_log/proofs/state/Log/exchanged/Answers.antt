@@ -1,7 +1,6 @@
 -- Between parts nothing is told of the ClientKeyExchange.
 -- Assumes nothing.
 use Rattle.message_log.proofs.Asking.{exchanged_between, exchanged_whole}
-use borrow.Author.Rules.{rules}
 use Rattle.message_log.proofs.state.Log.exchanged.Goals as goal
 
 pub returns-then-self-eq0 : goal.returns-then-self-eq0

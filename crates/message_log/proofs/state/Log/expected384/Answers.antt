@@ -3,7 +3,6 @@
 use Rattle.transcript.specs.Choice.Algorithm.{sha_384}
 use Rattle.message_log.specs.History.{hashed, choice_of}
 use Rattle.message_log.proofs.Finishing.{expected_by}
-use borrow.Author.Rules.{rules}
 use Rattle.message_log.proofs.state.Log.expected384.Goals as goal
 
 pub returns : goal.returns

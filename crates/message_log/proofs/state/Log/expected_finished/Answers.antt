@@ -5,7 +5,6 @@ use mathlib.Core.Path.{◌∙◌, ap}
 use Rattle.transcript.specs.Choice.{algorithm_by}
 use Rattle.message_log.specs.History.{hashed, choice_of}
 use Rattle.message_log.proofs.Finishing.{secret_expects, due_expects, done_expects}
-use borrow.Author.Rules.{rules}
 use Rattle.message_log.proofs.state.Log.expected_finished.Goals as goal
 
 pub returns-then-secret-ne-SECRET : goal.returns-then-secret-ne-SECRET

@@ -4,7 +4,6 @@ use mathlib.Core.Path.{sym}
 use native.Mathlib.Omega.{arith}
 use lib.Seq.{length-take-le}
 use Rattle.message_log.proofs.Feeding.{refused_feeds, request_feeds, done_feeds}
-use borrow.Author.Rules.{rules}
 use Rattle.message_log.proofs.state.Log.feed.Goals as goal
 
 pub returns-then-refusal-ne0 : goal.returns-then-refusal-ne0

@@ -1,12 +1,10 @@
 -- What is asked first refuses; else the value decides, which is that of the suite's hash.
 -- Assumes nothing.
-use mathlib.Core.Path.{◌≡◌, ◌∙◌, ap}
-use mathlib.Core.Logic.{⊎_elim}
+use mathlib.Core.Path.{◌∙◌, ap}
 use Rattle.transcript.specs.Choice.{algorithm_by}
 use Rattle.message_log.specs.History.{hashed, choice_of}
 use Rattle.message_log.proofs.Messages.{fine}
 use Rattle.message_log.proofs.Finishing.{refused_finishes, compared_finishes}
-use borrow.Author.Rules.{rules}
 use Rattle.message_log.proofs.state.Log.finish.Goals as goal
 use Rattle.message_log.proofs.state.Log.finish.Goals.{then-is_sha384, else-is_sha384}
 

@@ -1,7 +1,6 @@
 -- A log of no messages.
 -- Assumes nothing.
 use Rattle.message_log.proofs.Standing.{fresh_stands}
-use borrow.Author.Rules.{rules}
 use Rattle.message_log.proofs.state.Log.fresh.Goals as goal
 
 pub returns : goal.returns

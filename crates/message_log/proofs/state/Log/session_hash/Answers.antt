@@ -1,7 +1,6 @@
 -- The session hash, once there is one.
 -- Assumes nothing.
 use Rattle.message_log.proofs.Asking.{session_given, session_refused}
-use borrow.Author.Rules.{rules}
 use Rattle.message_log.proofs.state.Log.session_hash.Goals as goal
 
 pub returns-then-exchanged : goal.returns-then-exchanged

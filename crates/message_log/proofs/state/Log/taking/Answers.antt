@@ -2,7 +2,6 @@
 -- Assumes nothing.
 use Rattle.transcript.specs.Laws.{enters_on}
 use Rattle.message_log.proofs.Finishing.{takes_server, takes_client}
-use borrow.Author.Rules.{rules}
 use Rattle.message_log.proofs.state.Log.taking.Goals as goal
 
 pub returns-then-server : goal.returns-then-server

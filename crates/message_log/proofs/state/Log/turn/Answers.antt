@@ -3,7 +3,6 @@
 use native.Mathlib.Omega.{arith}
 use Rattle.message_log.proofs.Accepting.{shape_turn, between_turn, request_turn, finished_turn, out_turn, other_turn}
 use Rattle.message_log.proofs.Chosen.{told_byte}
-use borrow.Author.Rules.{rules}
 use Rattle.message_log.proofs.state.Log.turn.Goals as goal
 
 pub returns-then-refusal-ne0 : goal.returns-then-refusal-ne0
