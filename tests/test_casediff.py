@@ -436,11 +436,14 @@ def test_names():
     longest_name = f"{folder}/".ljust(4_094, "/") + "a"
     assert len(longest_name) == 4_095
     SECOND.write_bytes(OTHER)
-    for name in ("-", "--", "--help", "-h", "two words", "line\nfeed", b"\xff\xfe", "x" * 255):
+    for name in ("-", "--", "--help", "-h", "two words", "line\nfeed", "\u20ac", "x" * 255):
         (folder / os.fsdecode(name)).write_bytes(OTHER)
         FIRST.write_bytes(CASE)
         assert run("a", name, cwd=folder) == run(name, "a", cwd=folder) == DIFFERENT, name
         assert run("a", "b", name, cwd=folder) == run("a", "b", name, "/none", "", cwd=folder) == DIFFERENT, name
+    no_text = b"\xff\xfe"  # std's paths are UTF-8: no other name is that of a file
+    (folder / os.fsdecode(no_text)).write_bytes(OTHER)
+    assert run(no_text, "a", cwd=folder) == "first refused\n" and run("a", no_text, cwd=folder) == "second refused\n"
     assert run(longest_name, SECOND) == run(SECOND, longest_name) == run(FIRST, SECOND, "/none", "--help") == DIFFERENT
     unreadable("/" + longest_name)
     unreadable("/".ljust(100_000, "/") + "a")

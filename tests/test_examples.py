@@ -68,7 +68,7 @@ def test_run_on_the_sample():
 
 
 @contextlib.contextmanager
-def stand_in(script='echo "rt: ok"'):
+def stand_in(script='echo "rt: running out/loglist"'):
     """A folder with an `rt` of these lines, which leaves the file `called` there."""
     with tempfile.TemporaryDirectory() as folder:
         rt = pathlib.Path(folder, "rt")
@@ -141,19 +141,22 @@ def test_missing_tools():
 
 
 def test_progress():
-    lines = "seqs proved (unchanged since it was last proved)", "refusal proved (3 s)", "log NOT PROVED (exit 1, 5 s)"
-    with stand_in("\n".join(f"echo 'rt: {line}'" for line in lines) + "\necho crash >&2\nexit 1") as path:
+    lines = []
+    for name, checked, verdict in (("seqs", 0, "proved functions=0"), ("refusal", 3, "proved functions=2"), ("message", 5, "not-proved")):
+        lines += [f"crate {name}: modules loaded=9 checked={checked}", f"logic={verdict}"]
+    with stand_in("\n".join(f"echo '{line}'" for line in lines) + "\necho crash >&2\nexit 1") as path:
         said = run(path=path)
         assert said.returncode == 1 and said.stdout == "" and "loglist is not proved" in said.stderr
         told = said.stderr.splitlines()
         assert (
             told[0].startswith("proving loglist: ")
-            and told[1].startswith("  refusal proved (3 s); ")
+            and told[1].startswith("  refusal proved (0 s); ")
             and told[1].endswith(" loglist")
         )
         crates = int(told[0].split()[2])
-        assert f"; {crates - 2} left: " in told[1] and "log NOT PROVED (exit 1, 5 s); " in told[2]
+        assert f"; {crates - 2} left: " in told[1] and "message NOT PROVED (0 s); " in told[2]
         assert len(told[1].split("left: ")[1].split()) == crates - 2
+        assert told[3] == "  1 of them were proved before and are unchanged"
         assert (ROOT / "target/run.log").read_text().endswith("crash\n")
 
 

@@ -227,7 +227,7 @@ def test_a_casediff_that_is_missing_or_says_something_else():
         for part in ("tools", "oracle"):
             shutil.copytree(ROOT / part, pathlib.Path(folder, part))
         tool, program = pathlib.Path(folder, "tools/explain"), pathlib.Path(folder, "target/bin/casediff")
-        no_verdict(run(*MAKERS, tool=tool), "target/bin/casediff is missing: 'rt check casediff' proves and builds it")
+        no_verdict(run(*MAKERS, tool=tool), "target/bin/casediff is missing: 'tools/build casediff' proves and builds it")
         program.parent.mkdir(parents=True)
         for script, reason in (
             ("echo 'casediff: standard output: No space left on device' >&2", "status 0: casediff: standard output: No space"),

@@ -1,5 +1,5 @@
-"""What the programs say where a read or a write fails. A Rattle program has no exit status, so `loglist`, `replay` and `casediff` say
-it on standard error alone; nothing then stands on standard output that could be taken for an answer. Where `casediff` cannot read a
+"""What the programs say where a read or a write fails. `loglist`, `replay` and `casediff` end with status 0 all the same, and say it
+on standard error alone; nothing then stands on standard output that could be taken for an answer. Where `casediff` cannot read a
 file, that case is refused (tests/test_casediff.py)."""
 
 import os

@@ -110,7 +110,7 @@ def compared(taken):
         try:
             said = subprocess.run([PROGRAM, *paths], capture_output=True)
         except FileNotFoundError:
-            raise NoVerdict("target/bin/casediff is missing: 'rt check casediff' proves and builds it") from None
+            raise NoVerdict("target/bin/casediff is missing: 'tools/build casediff' proves and builds it") from None
     if said.returncode or said.stderr:
         raise NoVerdict(f"casediff ended with status {said.returncode}: {ascii(said.stderr.decode('latin-1').strip())[1:-1]}")
     if said.stdout.decode("latin-1") != casediff(*(held for _, held, _ in taken)):

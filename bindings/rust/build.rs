@@ -2,7 +2,7 @@
 
 use std::{env, path::PathBuf};
 
-/// As `tools/install` and `tools/build` name the archive, and as `rt staticlib` does.
+/// As `tools/install` and `tools/build` name the archive, and as `rt lib` does.
 const NAMES: [&str; 2] = ["axle_gateway", "gateway"];
 
 fn main() {
