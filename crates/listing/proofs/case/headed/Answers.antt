@@ -5,7 +5,6 @@ use native.Mathlib.Omega.{arith}
 use Rattle.cases.specs.Digits.{ascii}
 use Rattle.listing.specs.Texts.{header}
 use Rattle.listing.proofs.Zeros.{length_of}
-use borrow.Author.Rules.{rules}
 use Rattle.listing.proofs.case.headed.Goals as goal
 
 pub with-requires : goal.with-requires

@@ -8,7 +8,6 @@ use Rattle.cases.specs.Digits.{ascii}
 use Rattle.listing.specs.Texts.{header, refused}
 use Rattle.listing.specs.Listing.{listing}
 use Rattle.listing.proofs.Zeros.{length_of}
-use borrow.Author.Rules.{rules}
 use Rattle.listing.proofs.case.list.Goals as goal
 
 pub lines-requires : goal.lines-requires

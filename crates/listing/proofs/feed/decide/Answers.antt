@@ -4,7 +4,6 @@ use mathlib.Core.Path.{ap}
 use Rattle.sessions.specs.Book.{empty}
 use Rattle.decision.specs.declared.connection.Decision.{Decision}
 use Rattle.listing.specs.Listing.{decision_refusal, decision_on}
-use borrow.Author.Rules.{rules}
 use Rattle.listing.proofs.feed.decide.Goals as goal
 
 pub returns : goal.returns

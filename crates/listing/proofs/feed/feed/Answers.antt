@@ -3,7 +3,6 @@
 use native.Mathlib.Omega.{arith}
 use Rattle.listing.proofs.Columns.{columns_most, line_by}
 use Rattle.cases.proofs.Decimals.{one_long}
-use borrow.Author.Rules.{rules}
 use Rattle.listing.proofs.feed.feed.Goals as goal
 
 pub answer-requires : goal.answer-requires

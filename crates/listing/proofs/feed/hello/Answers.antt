@@ -7,7 +7,6 @@ use Rattle.listing.specs.Listing.{answer_of}
 use Rattle.listing.proofs.Columns.{hello_refused, hello_other, hello_decided, dash_most}
 use Rattle.cases.proofs.Decimals.{five_most}
 use Rattle.listing.proofs.Placing.{decision_place}
-use borrow.Author.Rules.{rules}
 use Rattle.listing.proofs.feed.hello.Goals as goal
 
 pub returns-then-number-ne0 : goal.returns-then-number-ne0

@@ -3,7 +3,6 @@
 use mathlib.Core.Path.{sym}
 use native.Mathlib.Omega.{arith}
 use Rattle.listing.proofs.Columns.{kind_none, kind_some, dash_most, kind_most}
-use borrow.Author.Rules.{rules}
 use Rattle.listing.proofs.feed.kind.Goals as goal
 
 pub returns-then-message-eq0 : goal.returns-then-message-eq0

@@ -3,7 +3,6 @@
 use mathlib.Core.Path.{sym, ◌∙◌}
 use Rattle.message.specs.Frame.{kind_of}
 use Rattle.listing.proofs.Taking.{finished_takes, other_takes}
-use borrow.Author.Rules.{rules}
 use Rattle.listing.proofs.feed.take.Goals as goal
 
 pub returns-then-byte-eq-FINISHED : goal.returns-then-byte-eq-FINISHED

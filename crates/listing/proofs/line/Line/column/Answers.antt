@@ -6,7 +6,6 @@ use native.Mathlib.Omega.{arith}
 use Rattle.cases.specs.Digits.{ascii}
 use Rattle.listing.specs.Texts.{column_of}
 use Rattle.listing.specs.declared.line.Column.{Column}
-use borrow.Author.Rules.{rules}
 use Rattle.listing.proofs.line.Line.column.Goals as goal
 
 pub byte-requires : goal.byte-requires

@@ -2,7 +2,6 @@
 -- Assumes nothing.
 use native.Mathlib.Omega.{arith}
 use Rattle.cases.proofs.Decimals.{three_most}
-use borrow.Author.Rules.{rules}
 use Rattle.listing.proofs.line.Line.numbered.Goals as goal
 
 pub number-requires : goal.number-requires

@@ -3,7 +3,6 @@
 use native.Mathlib.Omega.{arith}
 use Rattle.cases.specs.Digits.{ascii}
 use Rattle.listing.specs.Texts.{printed}
-use borrow.Author.Rules.{rules}
 use Rattle.listing.proofs.line.Line.of.Goals as goal
 
 pub returns : goal.returns
