@@ -19,7 +19,7 @@ returns-then-out-lt-LONGEST c =
 
 pub put_comparison-length-requires : goal.put_comparison-length-requires
 put_comparison-length-requires c =
-    let f = fits c.args.first.now c.args.second.now (λ i. omega (arith, c.shared_slice_known-1.given i)) (λ i. omega (arith, c.shared_slice_known-2-1.given i)) in
+    let f = fits c.args.first.now c.args.second.now (λ i. omega (arith, c.type_inv.first i)) (λ i. omega (arith, c.type_inv.second i)) in
     omega (arith, f)
 
 pub returns : goal.returns
@@ -27,7 +27,7 @@ unfolding too_short
 returns c =
     let a = c.args.first.now in
     let b = c.args.second.now in
-    let f = fits a b (λ i. omega (arith, c.shared_slice_known-1.given i)) (λ i. omega (arith, c.shared_slice_known-2-1.given i)) in
+    let f = fits a b (λ i. omega (arith, c.type_inv.first i)) (λ i. omega (arith, c.type_inv.second i)) in
     let e = le-ltb (length c.args.out.now) longest (omega arith) in
     let p = c.put_comparison-length.ensures in
     record {

@@ -9,4 +9,4 @@ pub returns-then-message-eq0 : goal.returns-then-message-eq0
 returns-then-message-eq0 c = (sym (kind_none _ c.if-message-eq0.true), dash_most 3 (omega arith))
 
 pub returns : goal.returns
-returns c = (sym (kind_some _ c.if-message-eq0.false), kind_most _ (omega (arith, c.shared_slice_known-1.given 0)))
+returns c = (sym (kind_some _ c.if-message-eq0.false), kind_most _ (omega (arith, c.type_inv.message 0)))

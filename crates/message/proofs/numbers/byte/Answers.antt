@@ -11,8 +11,8 @@ unfolding byte_at
 returns-then-bytes-at c = (sym (get_or-eq_default c.args.bytes.now 0 c.if-bytes-at.true), omega arith)
 
 pub overflow_cast-result : goal.overflow_cast-result
-overflow_cast-result c = omega (arith, c.shared_slice_known-1.given c.args.at)
+overflow_cast-result c = omega (arith, c.type_inv.bytes c.args.at)
 
 pub returns : goal.returns
 unfolding byte_at
-returns c = (refl, omega (arith, c.shared_slice_known-1.given c.args.at))
+returns c = (refl, omega (arith, c.type_inv.bytes c.args.at))
