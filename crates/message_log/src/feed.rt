@@ -41,7 +41,7 @@ impl Log {
         let n = hash.lets_in(allowance as u16, rest.len());
         let mut worked256 = 0;
         let mut worked384 = 0;
-        r.log = self.entered(
+        r.log.entered(
             &rest[..n],
             turn.kind,
             turn.place,

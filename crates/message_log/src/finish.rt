@@ -51,32 +51,31 @@ impl Log {
                 log: self,
             };
         }
-        let log = self.taking(message, value);
+        let mut log = self;
+        log.taking(message, value);
         Accepted {
             refusal: refuse(0),
             log,
         }
     }
 
-    // The log that has taken a Finished with this verify_data.
-    fn taking(mut self, message: &[u8], value: [u8; 12]) -> Log
-        ensures { Takes self message.now value result }
+    // The log takes a Finished with this verify_data, where it lies.
+    fn taking(&mut self, message: &[u8], value: [u8; 12])
+        ensures { Takes self.old message.now value self.new }
     {
         let server = order::from_server(self.place);
         let place = order::next(self.place, shape::FINISHED, false);
         let mut worked256 = 0;
         let mut worked384 = 0;
         let choice = self.hash.choice();
-        self.hash = self
-            .hash
-            .enter(message, choice, &mut worked256, &mut worked384);
+        self.hash
+            .take(message, choice, &mut worked256, &mut worked384);
         self.place = place;
         if server {
             self.server = value;
-            return self;
+            return;
         }
         self.client = value;
-        self
     }
 
     // What is asked before the value is computed.

@@ -81,7 +81,8 @@ impl Log {
         }
         let mut worked256 = 0;
         let mut worked384 = 0;
-        let log = self.entered(
+        let mut log = self;
+        log.entered(
             message,
             turn.kind,
             turn.place,
@@ -163,10 +164,10 @@ impl Log {
         Transcript::told(sha384 != 0)
     }
 
-    // The log that these bytes of a message in turn have entered, and how many blocks they worked: left bytes are still to come, or none,
+    // These bytes of a message in turn enter the log where it lies, and how many blocks they worked: left bytes are still to come, or none,
     // and the message is accepted.
     pub(crate) fn entered(
-        mut self,
+        &mut self,
         bytes: &[u8],
         kind: u8,
         place: u8,
@@ -174,17 +175,17 @@ impl Log {
         left: u16,
         worked256: &mut usize,
         worked384: &mut usize,
-    ) -> Log
-        ensures { Entered self bytes.now kind place sha384 left result (each worked256.new worked384.new) }
+    )
+        ensures { Entered self.old bytes.now kind place sha384 left self.new (each worked256.new worked384.new) }
     {
         let choice = self.carried(kind, sha384, left);
-        self.hash = self.hash.enter(bytes, choice, worked256, worked384);
+        self.hash.take(bytes, choice, worked256, worked384);
         self.left = left;
         if left != 0 {
             self.kind = kind;
             self.next = place;
             self.sha384 = sha384;
-            return self;
+            return;
         }
         self.kind = 0;
         self.next = 0;
@@ -194,7 +195,6 @@ impl Log {
             let session = digest(self.hash);
             self.session = session;
         }
-        self
     }
 
     pub fn session_hash(self) -> SessionHash

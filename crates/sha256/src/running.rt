@@ -131,6 +131,15 @@ impl Hash {
         next
     }
 
+    // The same where the hash lies, for a caller that keeps it in a place of its own: what `more` needs of the stack is given back
+    // before anything else is called.
+    #[inline(never)]
+    pub fn take(&mut self, bytes: &[u8], worked: &mut usize)
+        ensures { Takes self.old bytes.now self.new worked.new }
+    {
+        *self = self.more(bytes, worked);
+    }
+
     // Would n bytes more be too many?
     pub fn exceeds(self, n: u64) -> bool
         ensures { result ≡ nat_lt most (taken self + n) }

@@ -55,9 +55,9 @@ impl State384 {
             length: 128,
         };
         let mut worked = 0;
-        h = h.more(a, &mut worked);
-        h = h.more(b, &mut worked);
-        h = h.more(c, &mut worked);
+        h.take(a, &mut worked);
+        h.take(b, &mut worked);
+        h.take(c, &mut worked);
         h.digest()
     }
 

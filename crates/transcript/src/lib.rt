@@ -80,7 +80,7 @@ impl Transcript {
     // More bytes, for a caller that knows that there is room, and how many blocks of each hash were worked. Behind them choice says what is
     // carried: what was, or of both the one that is told, and the other one is given up.
     pub fn enter(
-        mut self,
+        self,
         bytes: &[u8],
         choice: u8,
         worked256: &mut usize,
@@ -88,27 +88,35 @@ impl Transcript {
     ) -> Transcript
         ensures { EntersTo self bytes.now choice result (each worked256.new worked384.new) }
     {
+        let mut next = self;
+        next.take(bytes, choice, worked256, worked384);
+        next
+    }
+
+    // The same where it lies, for a log that keeps it in a place of its own.
+    pub fn take(&mut self, bytes: &[u8], choice: u8, worked256: &mut usize, worked384: &mut usize)
+        ensures { EntersTo self.old bytes.now choice self.new (each worked256.new worked384.new) }
+    {
         if self.choice == SHA384 {
             *worked256 = 0;
-            self.sha384 = self.sha384.more(bytes, worked384);
-            return self;
+            self.sha384.take(bytes, worked384);
+            return;
         }
-        self.sha256 = self.sha256.more(bytes, worked256);
+        self.sha256.take(bytes, worked256);
         if self.choice == SHA256 {
             *worked384 = 0;
-            return self;
+            return;
         }
-        self.sha384 = self.sha384.more(bytes, worked384);
+        self.sha384.take(bytes, worked384);
         if choice == SHA384 {
             self.sha256 = Hash::fresh();
             self.choice = SHA384;
-            return self;
+            return;
         }
         if choice == SHA256 {
             self.sha384 = Hash384::fresh();
             self.choice = SHA256;
         }
-        self
     }
 
     pub fn digest256(self) -> [u8; 32]

@@ -10,4 +10,4 @@ pub returns-then-turn-eq-HELLO_REQUEST : goal.returns-then-turn-eq-HELLO_REQUEST
 returns-then-turn-eq-HELLO_REQUEST c = request_accepts _ _ _ c.turn-turn.result c.turn-turn.ensures c.if-refusal-ne0.false c.if-turn-eq-HELLO_REQUEST.true
 
 pub returns : goal.returns
-returns c = done_accepts _ _ _ c.turn-turn.result c.turn-turn.ensures c.if-refusal-ne0.false _ _ c.if-turn-eq-HELLO_REQUEST.false c.entered-log.ensures
+returns c = done_accepts _ _ _ c.turn-turn.result c.turn-turn.ensures c.if-refusal-ne0.false _ _ c.if-turn-eq-HELLO_REQUEST.false c.entered.ensures

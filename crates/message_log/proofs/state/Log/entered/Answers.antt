@@ -5,12 +5,12 @@ use Rattle.message_log.proofs.state.Log.entered.Goals as goal
 
 pub returns-then-left-ne0 : goal.returns-then-left-ne0
 returns-then-left-ne0 c =
-    part_entered _ _ _ _ _ _ _ c.carried-choice.ensures c.enter-self.result _ c.enter-self.ensures c.if-left-ne0.true
+    part_entered _ _ _ _ _ _ _ c.carried-choice.ensures c.take.new.self _ c.take.ensures c.if-left-ne0.true
 
 pub returns-then-kind-eq-CLIENT_KEY_EXCHANGE : goal.returns-then-kind-eq-CLIENT_KEY_EXCHANGE
 returns-then-kind-eq-CLIENT_KEY_EXCHANGE c =
-    exchange_entered _ _ _ _ _ _ _ c.carried-choice.ensures c.enter-self.result _ c.enter-self.ensures c.if-left-ne0.false c.if-kind-eq-CLIENT_KEY_EXCHANGE.true _ c.digest-session.ensures
+    exchange_entered _ _ _ _ _ _ _ c.carried-choice.ensures c.take.new.self _ c.take.ensures c.if-left-ne0.false c.if-kind-eq-CLIENT_KEY_EXCHANGE.true _ c.digest-session.ensures
 
 pub returns-else-kind-eq-CLIENT_KEY_EXCHANGE : goal.returns-else-kind-eq-CLIENT_KEY_EXCHANGE
 returns-else-kind-eq-CLIENT_KEY_EXCHANGE c =
-    other_entered _ _ _ _ _ _ _ c.carried-choice.ensures c.enter-self.result _ c.enter-self.ensures c.if-left-ne0.false c.if-kind-eq-CLIENT_KEY_EXCHANGE.false
+    other_entered _ _ _ _ _ _ _ c.carried-choice.ensures c.take.new.self _ c.take.ensures c.if-left-ne0.false c.if-kind-eq-CLIENT_KEY_EXCHANGE.false

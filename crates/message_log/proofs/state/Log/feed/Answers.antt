@@ -25,4 +25,4 @@ pub overflow_cast-rest : goal.overflow_cast-rest
 overflow_cast-rest c = omega (arith, c.part-turn.ensures.size c.if-refusal-ne0.false)
 
 pub returns : goal.returns
-returns c = done_feeds _ _ _ _ c.part-turn.result c.part-turn.ensures c.if-refusal-ne0.false _ _ _ c.if-turn-eq-HELLO_REQUEST.false c.lets_in-n.ensures.0 c.lets_in-n.ensures.1 c.entered-r.ensures
+returns c = done_feeds _ _ _ _ c.part-turn.result c.part-turn.ensures c.if-refusal-ne0.false _ _ _ c.if-turn-eq-HELLO_REQUEST.false c.lets_in-n.ensures.0 c.lets_in-n.ensures.1 c.entered.ensures

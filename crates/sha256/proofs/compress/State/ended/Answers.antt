@@ -12,8 +12,8 @@ returns c k h w =
     let y = a.b.now in
     let z = a.c.now in
     let r0 = begun_runs h in
-    let r1 = c.more-h.ensures.runs k r0 (omega (arith, h.whole)) in
-    let r2 = c.more-h-2.ensures.runs (k ++ x) r1 (simp length-append (omega (arith, h.whole))) in
-    let r3 = c.more-h-3.ensures.runs ((k ++ x) ++ y) r2 (simp length-append (omega (arith, h.whole))) in
+    let r1 = c.take.ensures.runs k r0 (omega (arith, h.whole)) in
+    let r2 = c.take-2.ensures.runs (k ++ x) r1 (simp length-append (omega (arith, h.whole))) in
+    let r3 = c.take-3.ensures.runs ((k ++ x) ++ y) r2 (simp length-append (omega (arith, h.whole))) in
     c.digest.ensures _ r3
     ∙ ap sha256 (append_assoc (k ++ x) y z ∙ append_assoc k x (y ++ z))
