@@ -100,44 +100,42 @@ impl Hash {
     // More bytes, for a caller that knows that there is room, and how many blocks were worked: each is counted where it is compressed. The
     // blocks are compressed where they lie, and only what is left over is copied. The sum wraps where there is no room, so that every
     // struct value is harmless.
-    pub fn more(self, bytes: &[u8], worked: &mut usize) -> Hash
-        ensures { Takes self bytes.now result worked.new }
+    pub fn take(&mut self, bytes: &[u8], worked: &mut usize)
+        ensures { Takes self.old bytes.now self.new worked.new }
     {
-        let mut next = self;
         let n = bytes.len();
         let at = (self.length % 64) as usize;
-        next.length = std::num::wrapping_add_u64(self.length, n as u64);
+        self.length = std::num::wrapping_add_u64(self.length, n as u64);
         if n < 64 - at {
             *worked = 0;
-            fill(&mut next.tail, at, bytes, 0, n);
-            return next;
+            fill(&mut self.tail, at, bytes, 0, n);
+            return;
         }
         let left = (n - (64 - at)) % 64;
         let state = self.state;
         if at == 0 {
             let mut count = 0;
-            next.state = state.blocks(bytes, 0, &mut count);
+            self.state = state.blocks(bytes, 0, &mut count);
             *worked = count;
-            fill(&mut next.tail, 0, bytes, n - left, left);
-            return next;
+            fill(&mut self.tail, 0, bytes, n - left, left);
+            return;
         }
-        fill(&mut next.tail, at, bytes, 0, 64 - at);
-        let first = state.compress(&next.tail, 0);
+        fill(&mut self.tail, at, bytes, 0, 64 - at);
+        let first = state.compress(&self.tail, 0);
         let mut count = 1;
-        next.state = first.blocks(bytes, 64 - at, &mut count);
+        self.state = first.blocks(bytes, 64 - at, &mut count);
         *worked = count;
-        next.tail = [0; 64];
-        fill(&mut next.tail, 0, bytes, n - left, left);
-        next
+        self.tail = [0; 64];
+        fill(&mut self.tail, 0, bytes, n - left, left);
     }
 
-    // The same where the hash lies, for a caller that keeps it in a place of its own: what `more` needs of the stack is given back
-    // before anything else is called.
-    #[inline(never)]
-    pub fn take(&mut self, bytes: &[u8], worked: &mut usize)
-        ensures { Takes self.old bytes.now self.new worked.new }
+    // The same of a hash by value: the next state.
+    pub fn more(self, bytes: &[u8], worked: &mut usize) -> Hash
+        ensures { Takes self bytes.now result worked.new }
     {
-        *self = self.more(bytes, worked);
+        let mut next = self;
+        next.take(bytes, worked);
+        next
     }
 
     // Would n bytes more be too many?

@@ -109,22 +109,21 @@ impl Hash384 {
     // first is completed in the tail; the others are compressed where they lie, and only what is left over is copied. One hash value is
     // changed in place all the way, so that there is no second one on the stack. The sum wraps where there is no room, so that every
     // struct value is harmless.
-    pub fn more(self, bytes: &[u8], worked: &mut usize) -> Hash384
-        ensures { Takes self bytes.now result worked.new }
+    pub fn take(&mut self, bytes: &[u8], worked: &mut usize)
+        ensures { Takes self.old bytes.now self.new worked.new }
     {
-        let mut next = self;
         let mut state = self.state;
         let n = bytes.len();
         let at = (self.length % 128) as usize;
-        next.length = std::num::wrapping_add_u64(self.length, n as u64);
+        self.length = std::num::wrapping_add_u64(self.length, n as u64);
         if n < 128 - at {
             *worked = 0;
-            fill(&mut next.tail, at, bytes, 0, n);
-            return next;
+            fill(&mut self.tail, at, bytes, 0, n);
+            return;
         }
         let mut i = 128 - at;
-        fill(&mut next.tail, at, bytes, 0, i);
-        state = state.compress(&next.tail, 0);
+        fill(&mut self.tail, at, bytes, 0, i);
+        state = state.compress(&self.tail, 0);
         let mut count = 1;
         while 128 <= n - i {
             state = state.compress(bytes, i);
@@ -132,19 +131,18 @@ impl Hash384 {
             i += 128;
         }
         *worked = count;
-        next.state = state;
-        next.tail = [0; 128];
-        fill(&mut next.tail, 0, bytes, i, n - i);
-        next
+        self.state = state;
+        self.tail = [0; 128];
+        fill(&mut self.tail, 0, bytes, i, n - i);
     }
 
-    // The same where the hash lies, for a caller that keeps it in a place of its own: what `more` needs of the stack is given back
-    // before anything else is called.
-    #[inline(never)]
-    pub fn take(&mut self, bytes: &[u8], worked: &mut usize)
-        ensures { Takes self.old bytes.now self.new worked.new }
+    // The same of a hash by value: the next state.
+    pub fn more(self, bytes: &[u8], worked: &mut usize) -> Hash384
+        ensures { Takes self bytes.now result worked.new }
     {
-        *self = self.more(bytes, worked);
+        let mut next = self;
+        next.take(bytes, worked);
+        next
     }
 
     // Would n bytes more be too many?

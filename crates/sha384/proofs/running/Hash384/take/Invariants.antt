@@ -3,7 +3,7 @@
 use Rattle.std.proofs.Common.{◌≡◌, suc, ◌-◌, ◌/◌, ◌%◌, ◌≤◌, length, drop}
 use Rattle.sha384.specs.Layout.{value_of}
 use Rattle.sha384.specs.Sha384.{hashed}
-use Rattle.sha384.proofs.running.Hash384.more.Given as goal
+use Rattle.sha384.proofs.running.Hash384.take.Given as goal
 
 abbrev pub invariant-loop-i : goal.invariant-loop-i
 invariant-loop-i l =

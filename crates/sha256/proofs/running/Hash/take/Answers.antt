@@ -9,18 +9,16 @@ use Rattle.sha256.specs.Constants.{initial}
 use Rattle.sha256.specs.Compress.{step}
 use Rattle.sha256.specs.Running.{Running, most}
 use Rattle.sha256.proofs.Counting.{counts_completed}
-use Rattle.sha256.proofs.running.Hash.more.Goals as goal
-use Rattle.sha256.proofs.running.Hash.more.Goals.{After-wrapping_add_u64}
+use Rattle.sha256.proofs.running.Hash.take.Goals as goal
+use Rattle.sha256.specs.declared.running.Hash.{Hash}
 
 -- the sum does not wrap where there is room
-counted : (c : After-wrapping_add_u64) (m : List ℕ) → Running c.args.self m
-    → length m + length c.args.bytes.now ≤ most
-    → c.wrapping_add_u64.result ≡ c.args.self.length + length c.args.bytes.now
-counted c m h w = c.wrapping_add_u64.ensures.value ∙ mod-eq_of_lt (omega (arith, h.holds.counted))
+counted : (s : Hash) (b m : List ℕ) {r : ℕ} → r ≡ (s.length + length b) % 18446744073709551616 → Running s m → length m + length b ≤ most → r ≡ s.length + length b
+counted s b m e h w = e ∙ mod-eq_of_lt (omega (arith, h.holds.counted))
 
 pub returns-then-n-at : goal.returns-then-n-at
 returns-then-n-at c =
-    let s = c.args.self in
+    let s = c.args.self.now in
     let b = c.args.bytes.now in
     let at = s.length % 64 in
     let g : length b < 64 - at = omega (arith, c.if-n-at.true) in
@@ -30,7 +28,7 @@ returns-then-n-at c =
           let e : at ≡ length m % 64 = ap (λ (i : ℕ). i % 64) h.holds.counted in
           record {
             holds =
-                holds_more 64 (omega arith) step initial m b h.holds at 0 (at + length b) e (counted (goal.at.returns-then-n-at c).After-wrapping_add_u64 m h w)
+                holds_more 64 (omega arith) step initial m b h.holds at 0 (at + length b) e (counted s b m c.wrapping_add_u64-self.ensures.value h w)
                 (omega arith)
                 (omega arith)
                 (after_none 64 step _ _)
@@ -42,7 +40,7 @@ returns-then-n-at c =
 
 pub returns-then-at-eq0 : goal.returns-then-at-eq0
 returns-then-at-eq0 c =
-    let s = c.args.self in
+    let s = c.args.self.now in
     let b = c.args.bytes.now in
     let at = s.length % 64 in
     let left = (length b - (64 - at)) % 64 in
@@ -56,19 +54,19 @@ returns-then-at-eq0 c =
           let t : s.tail ≡ replicate 64 0 = h.holds.waits ∙ none_waits 64 (omega arith) m (sym e ∙ none) in
           record {
             holds =
-                holds_more 64 (omega arith) step initial m b h.holds 0 j left (sym none ∙ e) (counted (goal.at.returns-then-at-eq0 c).After-wrapping_add_u64 m h w)
+                holds_more 64 (omega arith) step initial m b h.holds 0 j left (sym none ∙ e) (counted s b m c.wrapping_add_u64-self.ensures.value h w)
                 (omega arith)
                 (omega arith)
-                c.blocks-next.ensures.0
+                c.blocks-self.ensures.0
                 (c.fill-then-at-eq0.ensures ∙ ap (λ (l : List ℕ). paste l 0 (drop (length b - left) b) left) t ∙ left_over 64 [] b j left (omega arith) (omega arith));
             bounded = simp length-append (omega arith);
           };
-      counts = counts_completed b (c.blocks-next.ensures.1 ∙ (omega arith));
+      counts = counts_completed b (c.blocks-self.ensures.1 ∙ (omega arith));
     }
 
 pub returns : goal.returns
 returns c =
-    let s = c.args.self in
+    let s = c.args.self.now in
     let b = c.args.bytes.now in
     let at = s.length % 64 in
     let left = (length b - (64 - at)) % 64 in
@@ -83,12 +81,12 @@ returns c =
           let e : at ≡ length m % 64 = ap (λ (i : ℕ). i % 64) h.holds.counted in
           record {
             holds =
-                holds_more 64 (omega arith) step initial m b h.holds at (suc j) left e (counted (goal.at.returns c).After-wrapping_add_u64 m h w)
+                holds_more 64 (omega arith) step initial m b h.holds at (suc j) left e (counted s b m c.wrapping_add_u64-self.ensures.value h w)
                 (omega arith)
                 (omega arith)
-                (first_block 64 (omega arith) step initial _ _ _ s.tail b at j t (omega arith) (omega arith) (rw (← c.fill-2.ensures) c.compress-first.ensures) c.blocks-next-2.ensures.0)
+                (first_block 64 (omega arith) step initial _ _ _ s.tail b at j t (omega arith) (omega arith) (rw (← c.fill-2.ensures) c.compress-first.ensures) c.blocks-self-2.ensures.0)
                 (f ∙ left_over 64 (take at s.tail) b (suc j) left (omega arith) (omega arith));
             bounded = simp length-append (omega arith);
           };
-      counts = counts_completed b (c.blocks-next-2.ensures.1 ∙ (omega arith));
+      counts = counts_completed b (c.blocks-self-2.ensures.1 ∙ (omega arith));
     }

@@ -8,18 +8,16 @@ use Rattle.sha384.specs.Constants.{initial}
 use Rattle.sha384.specs.Compress.{step}
 use Rattle.sha384.specs.Running.{Running, most}
 use Rattle.sha384.proofs.Counting.{counts_completed}
-use Rattle.sha384.proofs.running.Hash384.more.Goals as goal
-use Rattle.sha384.proofs.running.Hash384.more.Goals.{After-wrapping_add_u64}
+use Rattle.sha384.proofs.running.Hash384.take.Goals as goal
+use Rattle.sha384.specs.declared.running.Hash384.{Hash384}
 
 -- the sum does not wrap where there is room
-counted : (c : After-wrapping_add_u64) (m : List ℕ) → Running c.args.self m
-    → length m + length c.args.bytes.now ≤ most
-    → c.wrapping_add_u64.result ≡ c.args.self.length + length c.args.bytes.now
-counted c m h w = c.wrapping_add_u64.ensures.value ∙ mod-eq_of_lt (omega (arith, h.holds.counted))
+counted : (s : Hash384) (b m : List ℕ) {r : ℕ} → r ≡ (s.length + length b) % 18446744073709551616 → Running s m → length m + length b ≤ most → r ≡ s.length + length b
+counted s b m e h w = e ∙ mod-eq_of_lt (omega (arith, h.holds.counted))
 
 pub returns-then-n-at : goal.returns-then-n-at
 returns-then-n-at c =
-    let s = c.args.self in
+    let s = c.args.self.now in
     let b = c.args.bytes.now in
     let at = s.length % 128 in
     let g : length b < 128 - at = omega (arith, c.if-n-at.true) in
@@ -29,7 +27,7 @@ returns-then-n-at c =
           let e : at ≡ length m % 128 = ap (λ (i : ℕ). i % 128) h.holds.counted in
           record {
             holds =
-                holds_more 128 (omega arith) step initial m b h.holds at 0 (at + length b) e (counted (goal.at.returns-then-n-at c).After-wrapping_add_u64 m h w)
+                holds_more 128 (omega arith) step initial m b h.holds at 0 (at + length b) e (counted s b m c.wrapping_add_u64-self.ensures.value h w)
                 (omega arith)
                 (omega arith)
                 (after_none 128 step _ _)
@@ -41,7 +39,7 @@ returns-then-n-at c =
 
 pub loop-i-init : goal.loop-i-init
 loop-i-init c =
-    let at = c.args.self.length % 128 in
+    let at = c.args.self.now.length % 128 in
     let z : (128 - at - (128 - at)) / 128 ≡ 0 = omega arith in
     (omega arith, omega arith, omega arith, rw z (after_none 128 step _ _), omega arith)
 
@@ -49,13 +47,13 @@ pub loop-i-preserved : goal.loop-i-preserved
 loop-i-preserved c =
     let a = c.args in
     let b = a.bytes.now in
-    let from = 128 - a.self.length % 128 in
+    let from = 128 - a.self.now.length % 128 in
     let n : (c.loop-i.i + 128 - from) / 128 ≡ suc ((c.loop-i.i - from) / 128) = omega arith in
     (omega arith, omega arith, omega arith, rw (n, c.compress-state-in-loop-i.ensures, c.loop-i.invariant.3) (after_more 128 step _ b from _ c.loop-i.i (omega arith)), omega arith)
 
 pub returns : goal.returns
 returns c =
-    let s = c.args.self in
+    let s = c.args.self.now in
     let b = c.args.bytes.now in
     let at = s.length % 128 in
     let i = c.loop-i.i in
@@ -73,7 +71,7 @@ returns c =
           let e : at ≡ length m % 128 = ap (λ (x : ℕ). x % 128) h.holds.counted in
           record {
             holds =
-                holds_more 128 (omega arith) step initial m b h.holds at (suc j) left e (counted (goal.at.returns c).After-wrapping_add_u64 m h w)
+                holds_more 128 (omega arith) step initial m b h.holds at (suc j) left e (counted s b m c.wrapping_add_u64-self.ensures.value h w)
                 (omega arith)
                 (omega arith)
                 (first_block 128 (omega arith) step initial _ _ _ s.tail b at j t (omega arith) (omega arith) (rw (← c.fill-2.ensures) c.compress-state.ensures) c.loop-i.invariant.3)
