@@ -162,7 +162,7 @@ impl Hash {
             return r;
         }
         let mut worked = 0;
-        r.hash = self.more(bytes, &mut worked);
+        r.hash.take(bytes, &mut worked);
         r
     }
 
@@ -200,7 +200,7 @@ pub fn sha256(message: &[u8]) -> Digested
     }
     let mut h = Hash::fresh();
     let mut worked = 0;
-    h = h.more(message, &mut worked);
+    h.take(message, &mut worked);
     let digest = h.digest();
     let refusal = refusal::refuse(0);
     Digested { refusal, digest }

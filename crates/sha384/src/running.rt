@@ -169,7 +169,7 @@ impl Hash384 {
             return r;
         }
         let mut worked = 0;
-        r.hash = self.more(bytes, &mut worked);
+        r.hash.take(bytes, &mut worked);
         r
     }
 

@@ -17,4 +17,4 @@ returns c =
     let m = c.args.message.now in
     let w : length m ≤ most = omega arith in
     digested m c.refuse-refusal-2.result (c.refuse-refusal-2.ensures ∙ ap refusal_of (sym (number_within 0 (length m) (omega arith)))) c.digest-digest.result w
-    (c.digest-digest.ensures m (c.more-h.ensures.runs [] c.fresh-h.ensures (omega arith)))
+    (c.digest-digest.ensures m (c.take.ensures.runs [] c.fresh-h.ensures (omega arith)))

@@ -25,5 +25,5 @@ returns c =
     record {
       refusal = c.refuse-refusal.ensures ∙ ap refusal_of (sym (number_within a.self.length (length a.bytes.now) w));
       refused = λ g. absurd (omega arith);
-      runs = c.more-r.ensures.runs;
+      runs = c.take.ensures.runs;
     }
