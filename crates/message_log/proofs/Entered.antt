@@ -12,7 +12,7 @@ use Rattle.transcript.specs.Choice.{Algorithm, Choice, algorithm_by, algorithm_o
 use Rattle.transcript.specs.Choice.Choice.{unchosen, chosen}
 use Rattle.transcript.specs.Carries.{Carries, digest_of}
 use Rattle.transcript.specs.Promise.{Enters, EntersTo}
-use Rattle.transcript.proofs.Laws.{enters_on}
+use Rattle.transcript.specs.Laws.{enters_on}
 use Rattle.transcript.specs.declared.Transcript.{Transcript}
 use Rattle.message_log.specs.Suite.{in_field}
 use Rattle.message_log.specs.Steps.{CarriedBehind, Entered}

@@ -20,7 +20,7 @@ use Rattle.transcript.specs.Choice.{Algorithm, Choice}
 use Rattle.transcript.specs.Choice.Algorithm.{sha_256, sha_384}
 use Rattle.transcript.specs.Allowance.{let_in}
 use Rattle.transcript.specs.Carries.{Carries}
-use Rattle.transcript.proofs.Laws.{let_in-within, let_in-blocks}
+use Rattle.transcript.specs.Laws.{let_in-within, let_in-blocks}
 use Rattle.message_log.specs.Told.{Told}
 use Rattle.message_log.specs.History.{History, tells, hashed, choice_of}
 use Rattle.message_log.specs.History.History.{accepted}

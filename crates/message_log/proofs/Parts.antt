@@ -22,7 +22,7 @@ use Rattle.refusal.specs.declared.Refusal.{Refusal}
 use Rattle.message.specs.Frame.{kind_of}
 use Rattle.transcript.specs.Choice.{Algorithm}
 use Rattle.transcript.specs.Allowance.{room, blocks}
-use Rattle.transcript.proofs.Laws.{let_in-room, let_in-blocks, blocks_append}
+use Rattle.transcript.specs.Laws.{let_in-room, let_in-blocks, blocks_append}
 use Rattle.transcript.proofs.Room.{tight}
 use Rattle.message_log.specs.Told.{Told}
 use Rattle.message_log.specs.History.{History, hashed, choice_of}

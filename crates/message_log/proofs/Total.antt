@@ -20,7 +20,7 @@ use Rattle.seqs.specs.Flag.{yes}
 use Rattle.transcript.specs.Choice.{Choice, algorithm_by, algorithm_of}
 use Rattle.transcript.specs.Carries.{Carries, digest_of}
 use Rattle.transcript.specs.Allowance.{let_in}
-use Rattle.transcript.proofs.Laws.{let_in-within, let_in-length}
+use Rattle.transcript.specs.Laws.{let_in-within, let_in-length}
 use Rattle.transcript.proofs.Further.{further, choosing, one_choice, one_digest, same_length}
 use Rattle.prf.specs.Secrets.{verify_data}
 use Rattle.message_log.specs.Told.{Told}

@@ -51,17 +51,17 @@ impl Log {
                 log: self,
             };
         }
-        let mut log = self;
-        log.taking(message, value);
+        let log = self.taking(message, value);
         Accepted {
             refusal: refuse(0),
             log,
         }
     }
 
-    // The log takes a Finished with this verify_data, where it lies.
-    fn taking(&mut self, message: &[u8], value: [u8; 12])
-        ensures { Takes self.old message.now value self.new }
+    // The log that has taken a Finished with this verify_data.
+    #[inline(never)]
+    fn taking(mut self, message: &[u8], value: [u8; 12]) -> Log
+        ensures { Takes self message.now value result }
     {
         let server = order::from_server(self.place);
         let place = order::next(self.place, shape::FINISHED, false);
@@ -73,9 +73,10 @@ impl Log {
         self.place = place;
         if server {
             self.server = value;
-            return;
+            return self;
         }
         self.client = value;
+        self
     }
 
     // What is asked before the value is computed.

@@ -73,16 +73,16 @@ impl Log {
     {
         let turn = self.turn(message, told);
         let refusal = turn.refusal;
+        let mut r = Accepted { refusal, log: self };
         if refusal.number != 0 {
-            return Accepted { refusal, log: self };
+            return r;
         }
         if turn.kind == shape::HELLO_REQUEST {
-            return Accepted { refusal, log: self };
+            return r;
         }
         let mut worked256 = 0;
         let mut worked384 = 0;
-        let mut log = self;
-        log.entered(
+        r.log.entered(
             message,
             turn.kind,
             turn.place,
@@ -91,7 +91,7 @@ impl Log {
             &mut worked256,
             &mut worked384,
         );
-        Accepted { refusal, log }
+        r
     }
 
     // Is the message in turn, and where does it lead?

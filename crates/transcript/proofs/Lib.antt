@@ -1,4 +1,3 @@
-pub mod Laws
 pub mod Alone
 pub mod Carrying
 pub mod Entering

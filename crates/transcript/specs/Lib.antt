@@ -2,3 +2,4 @@ pub mod Choice
 pub mod Allowance
 pub mod Carries
 pub mod Promise
+pub mod Laws

@@ -7,4 +7,4 @@ pub returns-then-not-equal : goal.returns-then-not-equal
 returns-then-not-equal c = compares_differs _ _ _ _ c.carries-equal.ensures _ c.if-not-equal.true c.refuse.ensures
 
 pub returns : goal.returns
-returns c = compares_equal _ _ _ _ c.carries-equal.ensures _ c.if-not-equal.false c.refuse-2.ensures _ c.taking.ensures
+returns c = compares_equal _ _ _ _ c.carries-equal.ensures _ c.if-not-equal.false c.refuse-2.ensures _ c.taking-log.ensures

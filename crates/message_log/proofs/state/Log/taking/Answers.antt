@@ -1,6 +1,6 @@
 -- The value stands with its side.
 -- Assumes nothing.
-use Rattle.transcript.proofs.Laws.{enters_on}
+use Rattle.transcript.specs.Laws.{enters_on}
 use Rattle.message_log.proofs.Finishing.{takes_server, takes_client}
 use Rattle.message_log.proofs.state.Log.taking.Goals as goal
 
