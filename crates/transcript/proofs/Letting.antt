@@ -17,7 +17,7 @@ use Rattle.transcript.specs.Choice.Algorithm.{sha_256, sha_384}
 use Rattle.transcript.specs.Choice.Choice.{unchosen, chosen}
 use Rattle.transcript.specs.Allowance.{smaller, room_of, room, let_in}
 use Rattle.transcript.specs.Carries.{Carries}
-use Rattle.transcript.specs.Laws.{room_256_is_smaller}
+use Rattle.transcript.proofs.Smaller.{room_256_is_smaller}
 use Rattle.transcript.specs.declared.Transcript.{Transcript}
 
 -- the room of a hash in which w bytes wait

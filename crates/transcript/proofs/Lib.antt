@@ -4,3 +4,4 @@ pub mod Entering
 pub mod Further
 pub mod Letting
 pub mod Room
+pub mod Smaller

@@ -11,7 +11,8 @@ use Rattle.transcript.specs.Choice.{Algorithm, Choice, block_of}
 use Rattle.transcript.specs.Choice.Algorithm.{sha_256, sha_384}
 use Rattle.transcript.specs.Choice.Choice.{unchosen, chosen}
 use Rattle.transcript.specs.Allowance.{room_of, room, blocks, Over, Tight}
-use Rattle.transcript.specs.Laws.{room_of_lem, room_256_is_smaller}
+use Rattle.transcript.specs.Laws.{room_of_lem}
+use Rattle.transcript.proofs.Smaller.{room_256_is_smaller}
 
 -- of one hash
 tight_of : (a : Algorithm) (k : ℕ) (m b : List ℕ)

@@ -40,6 +40,6 @@ Tight =
     (c : Choice) (k : ℕ) (m b : List ℕ)
     → (length b ≤ room c k m → (a : Algorithm) → blocks c a m b ≤ k) × (length b ≡ room c k m + 1 → Over c k m b)
 
--- with both carried SHA-256's room is never the larger one. The proof is specs/Laws.antt.
+-- with both carried SHA-256's room is never the larger one. The proof is proofs/Smaller.antt.
 abbrev pub Room256IsSmaller : Type 0
 Room256IsSmaller = (k : ℕ) (m : List ℕ) → room unchosen k m ≡ room_of sha_256 k m

@@ -10,7 +10,7 @@ use Rattle.seqs.proofs.Taking.{completed_append}
 use Rattle.transcript.specs.Choice.{Algorithm, Choice, block_of, carried}
 use Rattle.transcript.specs.Choice.Algorithm.{sha_256, sha_384}
 use Rattle.transcript.specs.Choice.Choice.{unchosen, chosen}
-use Rattle.transcript.specs.Allowance.{room_of, room, let_in, blocks, Room256IsSmaller}
+use Rattle.transcript.specs.Allowance.{smaller, room_of, room, let_in, blocks}
 use Rattle.transcript.specs.Carries.{choice_in}
 use Rattle.transcript.specs.Promise.{Enters, EntersTo}
 use Rattle.transcript.specs.declared.Transcript.{Transcript}
@@ -20,16 +20,20 @@ pub room_of_lem : (k : ℕ) (m : List ℕ) → room_of sha_256 k m ≤ room_of s
 unfolding room_of
 room_of_lem k m = omega arith
 
-pub room_256_is_smaller : Room256IsSmaller
-unfolding room
-room_256_is_smaller k m = rw (le-leb (room_of sha_256 k m) (room_of sha_384 k m) (room_of_lem k m))
-
 -- an allowance of k blocks has room for as many bytes as they have
+some_of : (a : Algorithm) (k : ℕ) (m : List ℕ) → 64 * k ≤ room_of a k m
+unfolding room_of
+some_of sha_256 k m = omega arith
+some_of sha_384 k m = omega arith
+
+-- in the smaller of two rooms too
+some_of_both : (a b : Algorithm) (k : ℕ) (m : List ℕ) → 64 * k ≤ smaller (room_of a k m) (room_of b k m)
+some_of_both a b k m = by_test (leb (room_of a k m) (room_of b k m)) (λ e. rw e (some_of a k m)) (λ e. rw e (some_of b k m))
+
 room_some : (c : Choice) (k : ℕ) (m : List ℕ) → 64 * k ≤ room c k m
-unfolding room_of room
-room_some unchosen k m = rw (room_256_is_smaller k m) (omega arith)
-room_some (chosen sha_256) k m = omega arith
-room_some (chosen sha_384) k m = omega arith
+unfolding room
+room_some unchosen k m = some_of_both _ _ k m
+room_some (chosen a) k m = some_of a k m
 
 -- lists of one length leave the same room
 room_length : (c : Choice) (k : ℕ) (m n : List ℕ) → length m ≡ length n → room c k m ≡ room c k n
