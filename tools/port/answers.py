@@ -201,9 +201,6 @@ def convert_body(text, names, said):
             code, comment = line[: k.start()], line[k.start() :]
         out.append(PATH.sub(one, code) + comment)
     text = "\n".join(out)
-    # a test of `!x` speaks of x itself now
-    text = re.sub(r"\(not-(?:true|false) [\w.]+ (c\.if-not[^\s()]*\.(?:true|false))\)", r"\1", text)
-    text = re.sub(r"\bnot-(?:true|false) _ (c\.if-not[^\s()]*\.(?:true|false))(?=[\s)])", r"\1", text)
     # let l = c in: the new record is flat
     while True:
         m = re.search(r"\blet (\w+'?) = (\w+'?) in[ \n]\s*", text)
