@@ -64,7 +64,7 @@ fn complete(connection: Connection, log: Log, decision: Decision) -> Completed
     agreed(connection, log.finished(), decision)
 }
 
-// The connection record is lent: it is read, `complete` is asked, and the record is written back. The walk is in proofs/.
+// The connection record is lent: it is read, `complete` is asked, and the record is written back.
 #[unsafe(no_mangle)]
 pub extern "C" fn axle_complete(
     connection: &mut Connection,
