@@ -65,7 +65,7 @@ fn open_argument<R: Env + Files>(rt: &R, number: usize) -> Option<R::File> {
 // opened or a read fails, nothing was read: bytes before a failed read are no file.
 pub fn read_argument<R: Env + Files>(rt: &R, number: usize, buffer: &mut [u8]) -> Input
     ensures prefix_len { IsPrefixLen result.length buffer.new }
-    ensures length_value { result.failed ≡ true → result.length ≡ 0 }
+    ensures unread { result.failed ≡ true → result.length ≡ 0 }
 {
     let unread = Input {
         length: 0,
@@ -82,7 +82,8 @@ pub fn read_argument<R: Env + Files>(rt: &R, number: usize, buffer: &mut [u8]) -
     read
 }
 
-// Writes a line to standard error: what failed, a colon and the system's words for the error.
+// Writes a line to standard error: what failed, a colon and the system's words for the error, without the number that std puts behind
+// them. Nothing is handed back, and what a terminal takes no contract can say: the lines are compared in tests/test_failures.py.
 pub fn say<R: Eprint>(rt: &R, what: &str, error: &Error) {
     let mut text = [0u8; 320];
     let mut said = Cursor::new(&mut text[..]);
