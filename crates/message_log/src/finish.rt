@@ -58,7 +58,8 @@ impl Log {
         }
     }
 
-    // The log that has taken a Finished with this verify_data.
+    // The log that has taken a Finished with this verify_data. In a frame of its own, so that it is not on the stack beside the keys of
+    // the expected value.
     #[inline(never)]
     fn taking(mut self, message: &[u8], value: [u8; 12]) -> Log
         ensures { Takes self message.now value result }
