@@ -35,7 +35,7 @@ module _ (F : Sha2) where
       ∙ get_or-append (schedule F (n + m) b) _ 0 i (omega (arith, length-schedule (n + m) b))
       ∙ stays n m i b h
 
-  same_next : {a b c d a' b' c' d' : ℕ} → a ≡ a' → b ≡ b' → c ≡ c' → d ≡ d' → next F a b c d ≡ next F a' b' c' d'
+  pub same_next : {a b c d a' b' c' d' : ℕ} → a ≡ a' → b ≡ b' → c ≡ c' → d ≡ d' → next F a b c d ≡ next F a' b' c' d'
   same_next p q r s = cc
 
   -- 'W(t)' for t from 16 on
@@ -153,24 +153,16 @@ module _ (F : Sha2) where
   unfolding rounds
   next_round s ws n = refl
 
-  -- place i of the n constants from index t on
-  constant : {k : List ℕ} (n t i : ℕ) → i < n → k ≡ take n (drop t F.ks) → get_or k i 0 ≡ get_or F.ks (t + i) 0
-  constant n t i h e = ap (λ (l : List ℕ). get_or l i 0) e ∙ get_or-take n (drop t F.ks) i 0 h ∙ get_or-drop t F.ks i 0
-
-  -- round i of a turn finds its word of the schedule at place i of the ring, and its constant at place j of the n from index t on
-  pub round_more : (s : Value) (turn i n t j : ℕ) {w b k : List ℕ} {v v' : Value} → 16 * turn ≤ F.more → i < 16 → j < n → t + j ≡ 16 * turn + i
-      → Ring F w b (16 * turn) → k ≡ take n (drop t F.ks)
-      → v ≡ rounds F (16 * turn + i) s (schedule F F.more b) → v' ≡ round_of F v (get_or k j 0) (get_or w i 0)
-      → v' ≡ rounds F (16 * turn + (i + 1)) s (schedule F F.more b)
-  round_more s turn i n t j {w} {b} g h l z r e p q =
-      let m : (16 * turn + i) / 16 ≡ turn = omega arith in
-      let o : (16 * turn + i) % 16 ≡ i = omega arith in
-      let u : suc (16 * turn + i) ≡ 16 * turn + (i + 1) = omega arith in
-      let f : get_or w i 0 ≡ word_of F b (16 * turn + i) =
-      ap (λ (x : ℕ). get_or w x 0) (sym o) ∙ finds w b (16 * turn + i) (omega arith) (subst (λ (x : ℕ). Ring F w b (16 * x)) (sym m) r) in
+  -- round t + i of a turn finds its word of the schedule at place i of the ring that stands at t
+  pub round_more : (s : Value) (t i : ℕ) {w b : List ℕ} {v v' : Value} {k x : ℕ} → i < 16 → Ring F w b t
+      → k ≡ get_or F.ks (t + i) 0 → x ≡ get_or w i 0
+      → v ≡ rounds F (t + i) s (schedule F F.more b) → v' ≡ round_of F v k x
+      → v' ≡ rounds F (t + (i + 1)) s (schedule F F.more b)
+  round_more s t i {w} {b} h r e f p q =
+      let u : suc (t + i) ≡ t + (i + 1) = omega arith in
       q
-      ∙ same_round p (constant n t j l e ∙ ap (λ (x : ℕ). get_or F.ks x 0) z) f
-      ∙ next_round s (schedule F F.more b) (16 * turn + i)
+      ∙ same_round p e (f ∙ found r i h)
+      ∙ next_round s (schedule F F.more b) (t + i)
       ∙ ap (λ (x : ℕ). rounds F x s (schedule F F.more b)) u
 
   pub rounds_none : (s : Value) (ws : List ℕ) → s ≡ rounds F 0 s ws

@@ -13,9 +13,3 @@ length_put b x e =
     ∙ ap (λ (l : List ℕ). take 56 b ++ eight x ++ l) (drop_of_length-le b {i = 64} (omega arith))
     ∙ append-nil (take 56 b ++ eight x)
     ∙ ap (λ (l : List ℕ). take 56 b ++ l) (sym (eight_bytes x))
-
--- word t of the block at index at, joined of four bytes
-pub word_at : (b : List ℕ) (at t : ℕ) → at + 64 ≤ length b → t < 16
-    → of_bytes big (get_or b (at + 4 * t) 0 ∷ get_or b (at + 4 * t + 1) 0 ∷ get_or b (at + 4 * t + 2) 0 ∷ get_or b (at + 4 * t + 3) 0 ∷ [])
-    ≡ of_bytes big (block_at 4 (take 64 (drop at b)) t)
-word_at b at t h g = ap (of_bytes big) (sym (word_in 4 64 at b t (omega arith) ∙ four_at b (at + 4 * t) (omega arith)))

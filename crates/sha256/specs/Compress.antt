@@ -5,12 +5,11 @@ use Rattle.std.specs.Prelude.{◌≡◌, ℕ, ◌/◌, ◌%◌, ◌<◌, List, [
 use Rattle.seqs.specs.Words.{big, bytes_of}
 use Rattle.seqs.specs.Sha2 as sha2
 use Rattle.seqs.specs.Ring as ring
-use Rattle.sha256.specs.Functions.{Σ0, Σ1, σ0, σ1}
-use Rattle.sha256.specs.Constants.{ks}
+use Rattle.fips180.specs.Kinds.{words32}
 
 -- words of 32 bits, and 48 of them behind the block's own sixteen
 abbrev pub parameters : sha2.Sha2
-parameters = record { width = 32; bytes = 4; Σ0 = Σ0; Σ1 = Σ1; σ0 = σ0; σ1 = σ1; ks = ks; more = 48 }
+parameters = words32
 
 abbrev pub next : ℕ → ℕ → ℕ → ℕ → ℕ
 next = sha2.next parameters

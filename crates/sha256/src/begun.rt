@@ -8,6 +8,7 @@ ghost use Rattle.sha256.specs.Sha256.{sha256};
 
 use crate::compress::State;
 use crate::running::{Hash, fill};
+use fips180::Chain;
 
 // The most bytes that two blocks hold before the padding: it has one byte for the one bit, and eight for the length.
 const ROOM: usize = 119;

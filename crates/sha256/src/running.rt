@@ -8,6 +8,7 @@ ghost use Rattle.sha256.specs.Sha256.{sha256};
 ghost use Rattle.sha256.specs.Promise.{Absorbs, Takes, digested_of};
 
 use crate::compress::State;
+use fips180::Chain;
 use refusal::Refusal;
 
 #[repr(C)]

@@ -5,12 +5,11 @@ use Rattle.std.specs.Prelude.{◌≡◌, ℕ, ◌/◌, ◌%◌, ◌<◌, List, [
 use Rattle.seqs.specs.Words.{big, bytes_of}
 use Rattle.seqs.specs.Sha2 as sha2
 use Rattle.seqs.specs.Ring as ring
-use Rattle.sha384.specs.Functions.{Σ0, Σ1, σ0, σ1}
-use Rattle.sha384.specs.Constants.{ks}
+use Rattle.fips180.specs.Kinds.{words64}
 
 -- words of 64 bits, and 64 of them behind the block's own sixteen
 abbrev pub parameters : sha2.Sha2
-parameters = record { width = 64; bytes = 8; Σ0 = Σ0; Σ1 = Σ1; σ0 = σ0; σ1 = σ1; ks = ks; more = 64 }
+parameters = words64
 
 abbrev pub next : ℕ → ℕ → ℕ → ℕ → ℕ
 next = sha2.next parameters

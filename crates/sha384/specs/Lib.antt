@@ -1,4 +1,3 @@
-pub mod Functions
 pub mod Constants
 pub mod Compress
 pub mod Sha384

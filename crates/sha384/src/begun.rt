@@ -8,6 +8,7 @@ ghost use Rattle.sha384.specs.Sha384.{sha384};
 
 use crate::compress::State384;
 use crate::running::{Hash384, fill};
+use fips180::Chain;
 
 // The most bytes that two blocks hold before the padding: it has one byte for the one bit, and sixteen for the length.
 const ROOM: usize = 239;

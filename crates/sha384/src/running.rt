@@ -8,6 +8,7 @@ ghost use Rattle.sha384.specs.Sha384.{sha384};
 ghost use Rattle.sha384.specs.Promise.{Absorbs, Takes, digested_of};
 
 use crate::compress::State384;
+use fips180::Chain;
 use refusal::Refusal;
 
 #[repr(C)]

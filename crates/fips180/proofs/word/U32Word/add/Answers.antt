@@ -1,0 +1,9 @@
+-- The sum modulo 2 ^ 32.
+-- Assumes nothing.
+use Rattle.std.proofs.Common.{refl}
+use Rattle.seqs.specs.Operations.{add}
+use Rattle.fips180.proofs.word.U32Word.add.Goals as goal
+
+pub returns : goal.returns
+unfolding add
+returns c = refl

@@ -1,0 +1,10 @@
+-- What the document says, by computation.
+-- Assumes nothing.
+use Rattle.std.proofs.Common.{refl}
+use Rattle.seqs.specs.Operations.{rotr}
+use Rattle.fips180.specs.Functions32.{σ1}
+use Rattle.fips180.proofs.word.U32Word.small1.Goals as goal
+
+pub returns : goal.returns
+unfolding σ1 rotr
+returns c = rw (c.rotate_right.ensures, c.rotate_right-2.ensures) refl

@@ -1,0 +1,10 @@
+-- Eight bytes are one number.
+-- Assumes nothing.
+use Rattle.std.proofs.Common.{◌+◌, ◌*◌, arith}
+use Rattle.seqs.specs.Words.{of_bytes}
+use Rattle.seqs.proofs.Words.{eight_at}
+use Rattle.fips180.proofs.word.U64Word.read.Goals as goal
+
+pub returns : goal.returns
+unfolding of_bytes
+returns c = rw (eight_at c.args.b.now (c.args.at + 8 * c.args.t) c.requires) (omega (arith, c.from_be_bytes.ensures))
