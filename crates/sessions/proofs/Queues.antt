@@ -5,14 +5,15 @@ use mathlib.Core.List.{List, [], ◌∷◌}
 use Prim.Native.Nat.{ℕ, zero, suc, ◌-◌, ◌≤◌, ◌<◌}
 use native.Mathlib.Omega.{arith}
 use lib.Dec.{eqb}
-use lib.ListN.{length, get_or, set}
+use lib.ListN.{length, take, get_or, set}
+use Rattle.std.specs.List.{sum_by}
 use Rattle.seqs.specs.Pick.{pick}
 use Rattle.sessions.specs.Book.{Book, holds}
-use Rattle.sessions.specs.Keeps.{part_of, laid, six, table_of, sessions_of, queue_at, queue_of, held_in}
+use Rattle.sessions.specs.Keeps.{Formed, Each, part_of, laid, six, table_of, sessions_of, queue_at, queue_of, held_in}
 use Rattle.sessions.specs.declared.queue.Queue.{Queue}
 use Rattle.sessions.specs.declared.table.Table.{Table}
-use Rattle.sessions.proofs.Laid.{sessions_laid}
-use Rattle.sessions.proofs.Parts.{part_length, part_axle}
+use Rattle.sessions.proofs.Laid.{sessions_laid, laid_held}
+use Rattle.sessions.proofs.Parts.{part_length, part_axle, part_six}
 
 module _ {A : Type 0} where
   pub six_at : (f : ℕ → A) (n : ℕ) (d : A) → n < 6 → get_or (six f) n d ≡ f (suc n)
@@ -87,6 +88,17 @@ module _ (t : Table) (b : Book) (e : t ≡ table_of b) where
 
   pub sessions_at : (n : ℕ) (d : Queue) → n < 6 → sessions_of (suc n) (get_or t.queues n d) ≡ part_of (suc n) b
   sessions_at n d h = rw (laid_at n d h) (sessions_laid (suc n) (part_of (suc n) b) (part_axle (suc n) b))
+
+  pub held_at : (n : ℕ) (d : Queue) → n < 6 → (get_or t.queues n d).held ≡ holds (suc n) b
+  unfolding laid
+  held_at n d h = rw (laid_at n d h) (part_length (suc n) b)
+
+  -- all together
+  pub total_is : Each Formed b → sum_by (λ (q : Queue). length (take q.held q.rows)) t.queues ≡ length b
+  total_is f =
+      rw queues_are
+      (rw (laid_held (part_of 1 b), laid_held (part_of 2 b), laid_held (part_of 3 b), laid_held (part_of 4 b), laid_held (part_of 5 b), laid_held (part_of 6 b))
+      (omega (arith, part_six b f)))
 
   module _ (a : ℕ) (from : 1 ≤ a) (to : a ≤ 6) where
     pub queue_is : queue_at t a ≡ laid (part_of a b)
