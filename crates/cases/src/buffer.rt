@@ -1,5 +1,5 @@
 // Bytes gathered in fixed memory, one behind the other.
-ghost use Rattle.std.specs.Prelude.{◌≡◌, List, [], ◌++◌, ℕ, ◌+◌, ◌-◌, ◌≤◌, length, take, replicate};
+ghost use Rattle.std.specs.Prelude.{◌≡◌, List, [], ◌++◌, ℕ, ◌+◌, ◌-◌, ◌≤◌, length, take, drop, replicate};
 
 use std::marker::Model;
 
@@ -15,7 +15,7 @@ impl<const N: usize> Model for Buffer<N> {
 
     ghost view = { λ b. take b.length b.bytes };
 
-    ghost invariant = { λ b. (b.length ≤ N) × (b.bytes ≡ take b.length b.bytes ++ replicate (N - b.length) 0) };
+    ghost invariant = { λ b. (b.length ≤ N) × (drop b.length b.bytes ≡ replicate (N - b.length) 0) };
 }
 
 impl<const N: usize> Buffer<N> {
