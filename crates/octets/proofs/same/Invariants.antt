@@ -1,16 +1,14 @@
--- `octets::same` looks at every byte: until i, the strings are the same exactly where the difference is 0.
+-- `octets::same` looks at every byte: so far, the strings are the same exactly where the difference is 0.
 -- Assumes nothing.
-use mathlib.Core.Path.{◌≡◌}
-use mathlib.Core.Bool.{false}
-use Prim.Native.Nat.{◌-◌, ◌≤◌}
+use Rattle.std.proofs.Common.{◌≡◌, length, false}
 use lib.Dec.{eqb}
-use lib.ListN.{length, drop}
 use Rattle.seqs.specs.Pick.{pick}
 use Rattle.octets.specs.Same.{same}
 use Rattle.octets.proofs.same.Given as goal
 
-abbrev pub invariant-loop-i : goal.invariant-loop-i
-invariant-loop-i l = (l.i ≤ length l.a) × (length l.a ≡ length l.b) × (same l.a l.b ≡ pick (eqb l.difference 0) (same (drop l.i l.a) (drop l.i l.b)) false)
-
-abbrev pub decreases-loop-i : goal.decreases-loop-i
-decreases-loop-i l = length l.a - l.i
+-- of what is left of both
+abbrev pub invariant-loop-x : goal.invariant-loop-x
+invariant-loop-x l =
+    let xs = l.x-iterator.a.rest.now in
+    let ys = l.x-iterator.b.rest.now in
+    (length xs ≡ length ys) × (same l.a l.b ≡ pick (eqb l.difference 0) (same xs ys) false)

@@ -1,6 +1,7 @@
 -- `refuse_at` answers the row of the table: each arm knows its number, and the last that it is none of those above.
 -- Assumes nothing.
 use mathlib.Core.Path.{refl, ◌∙◌}
+use Rattle.std.proofs.Common.{rules}
 use Rattle.refusal.proofs.Rows.{at_row, no_alert}
 use Rattle.refusal.proofs.refuse_at.Goals as goal
 
@@ -35,4 +36,4 @@ pub returns-in-12 : goal.returns-in-12
 returns-in-12 c = at_row _ c.in-12.is c.with_alert-in-12.ensures refl
 
 pub returns-in_default : goal.returns-in_default
-returns-in_default c = c.with_alert-in_default.ensures ∙ no_alert _ _ c.in_default.in_default-own.rest
+returns-in_default c = c.with_alert-in_default.ensures ∙ no_alert _ _ (search rules)
