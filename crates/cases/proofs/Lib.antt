@@ -2,4 +2,3 @@ pub mod Bodies
 pub mod Cases
 pub mod Laid
 pub mod Decimals
-pub mod Spelling

@@ -1,4 +1,3 @@
 pub mod Contents
 pub mod Layout
 pub mod Digits
-pub mod Spelled

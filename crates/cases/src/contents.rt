@@ -19,10 +19,8 @@ pub fn is_good(case: &[u8]) -> bool
         return false;
     }
     let mut end = size;
-    let mut i: usize = 0;
-    while i < count {
+    for i in 0..count {
         end += pair(case, 1 + 2 * i);
-        i += 1;
     }
     end == case.len()
 }

@@ -1,13 +1,8 @@
 // Numbers in print.
 ghost use Rattle.std.specs.Prelude.{◌≡◌, ◌+◌, ◌%◌};
-ghost use Rattle.cases.specs.Spelled.{spelled};
+ghost use Rattle.cases.specs.Digits.{decimal};
 
-// The digits of a number, and how many there are; zeros stand behind them.
-#[derive(Clone, Copy)]
-pub struct Decimal {
-    pub bytes: [u8; 5],
-    pub length: usize,
-}
+use crate::buffer::Buffer;
 
 // The last digit.
 fn digit(n: u16) -> u8
@@ -16,40 +11,25 @@ fn digit(n: u16) -> u8
     b'0' + (n % 10) as u8
 }
 
-// A number in decimal, by how many digits it has.
-pub fn decimal_of(n: u16) -> Decimal
-    ensures { result ≡ spelled n }
+// A number in decimal: its five digits, without the zeros that lead.
+pub fn decimal_of(n: u16) -> Buffer<5>
+    ensures { result ≡ decimal n }
 {
-    let ones = digit(n);
-    let tens = digit(n / 10);
-    let hundreds = digit(n / 100);
-    let thousands = digit(n / 1000);
-    if n < 10 {
-        return Decimal {
-            bytes: [ones, 0, 0, 0, 0],
-            length: 1,
-        };
-    }
-    if n < 100 {
-        return Decimal {
-            bytes: [tens, ones, 0, 0, 0],
-            length: 2,
-        };
-    }
-    if n < 1000 {
-        return Decimal {
-            bytes: [hundreds, tens, ones, 0, 0],
-            length: 3,
-        };
-    }
-    if n < 10000 {
-        return Decimal {
-            bytes: [thousands, hundreds, tens, ones, 0],
-            length: 4,
-        };
-    }
-    Decimal {
-        bytes: [digit(n / 10000), thousands, hundreds, tens, ones],
-        length: 5,
-    }
+    let digits = [
+        digit(n / 10000),
+        digit(n / 1000),
+        digit(n / 100),
+        digit(n / 10),
+        digit(n),
+    ];
+    let zeros = match n {
+        0..=9 => 4,
+        10..=99 => 3,
+        100..=999 => 2,
+        1000..=9999 => 1,
+        _ => 0,
+    };
+    let mut decimal = Buffer::empty();
+    decimal.push(&digits[zeros..]);
+    decimal
 }

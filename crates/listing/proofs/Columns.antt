@@ -71,7 +71,7 @@ number_long k n e h = ap (λ (x : Column). length (column_of x)) e ∙ one_long 
 accepted_long : (k : Column) (p : ℕ) → k ≡ Answer 0 p → length (column_of k) ≡ 1
 unfolding column_of
 accepted_long k p e =
-    ap (λ (x : Column). length (column_of x)) e ∙ ap length (bare 0 p (omega arith) (omega arith)) ∙ one_long 0 (omega arith)
+    ap (λ (x : Column). length (column_of x)) e ∙ ap length (bare 0 p refl) ∙ one_long 0 (omega arith)
 
 -- The longest line is that of a ClientHello which the log accepted: the hello column has a place beside type 1 and number 0 alone, and a
 -- place in the log column has one digit.

@@ -1,9 +1,6 @@
 pub mod Answers
-pub mod Adding
 pub mod Columns
 pub mod Placing
-pub mod Putting
 pub mod Taking
 pub mod Example
 pub mod Going
-pub mod Zeros

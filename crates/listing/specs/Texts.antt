@@ -1,13 +1,11 @@
--- What is printed, and the structs that hold it.
+-- What is printed.
 -- Assumes nothing.
-use Rattle.std.specs.Prelude.{◌≡◌, List, [], ◌++◌, ℕ, ◌+◌, ◌-◌, length, take, replicate}
+use Rattle.std.specs.Prelude.{List, [], ◌++◌, ℕ}
 use Rattle.seqs.specs.Pick.{pick}
 use Rattle.refusal.specs.Table.{placed}
 use Rattle.cases.specs.Digits.{ascii, decimal}
 use Rattle.listing.specs.declared.line.Column.{Column}
 use Rattle.listing.specs.declared.line.Column.TheVariants.{Nothing, Number, Answer}
-use Rattle.listing.specs.declared.line.Line.{Line}
-use Rattle.listing.specs.declared.text.Text.{Text}
 
 unfoldable pub header : List ℕ
 header = ascii "message type log hello\n"
@@ -31,16 +29,3 @@ column_of (Answer n p) = answered n p
 unfoldable pub printed : ℕ → Column → Column → Column → List ℕ
 printed i kind log hello =
     decimal i ++ ascii " " ++ column_of kind ++ ascii " " ++ column_of log ++ ascii " " ++ column_of hello ++ ascii "\n"
-
--- what a line holds
-abbrev pub line_of : Line → List ℕ
-line_of l = take l.length l.bytes
-
--- a line with s behind what it held
-pub record Adds (l : Line) (s : List ℕ) (r : Line) : Type 0 where
-  pub holds : line_of r ≡ line_of l ++ s
-  pub long : r.length ≡ l.length + length s
-
--- a text that holds s, and zeros behind it: 4,103 bytes are the header and 255 lines of at most 16
-unfoldable pub text_of : List ℕ → Text
-text_of s = record { bytes = s ++ replicate (4103 - length s) 0; length = length s }

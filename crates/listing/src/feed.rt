@@ -5,7 +5,7 @@ ghost use Rattle.listing.specs.Texts.{column_of};
 ghost use Rattle.listing.specs.Listing.{kind_column, decision_refusal, answer_of, hello_column};
 ghost use Rattle.listing.specs.Steps.{Takes, Feeds};
 
-use crate::line::{Column, Line};
+use crate::line::{Column, Line, line_of};
 use decision::{Connection, Switches, decide_server};
 use message::byte;
 use message_log::{Accepted, Log, Told};
@@ -18,20 +18,15 @@ const FINISHED: usize = 20;
 
 const AXLE: u8 = 1;
 
-#[derive(Clone, Copy)]
-pub(crate) struct Fed {
-    pub line: Line,
-    pub log: Log,
-}
-
 // The type of a message; an empty one has none.
 fn kind(message: &[u8]) -> Column
-    ensures { (result ≡ kind_column message.now) × (length (column_of result) ≤ 3) }
+    ensures value { result ≡ kind_column message.now }
+    ensures short { length (column_of result) ≤ 3 }
 {
-    if message.len() == 0 {
-        return Column::Nothing;
+    match message {
+        [kind, ..] => Column::Number(*kind),
+        [] => Column::Nothing,
     }
-    Column::Number(message[0])
 }
 
 // The server's decision on a ClientHello from nobody known: an empty table, a fresh connection, every switch off.
@@ -39,13 +34,7 @@ fn decide(message: &[u8]) -> Refusal
     ensures { result ≡ decision_refusal message.now }
 {
     let table = Table::fresh();
-    let connection = Connection {
-        completed: 0,
-        indication: 0,
-        barred: 0,
-        client: [0; 12],
-        server: [0; 12],
-    };
+    let connection = Connection::fresh();
     let switches = Switches {
         indication_required: 0,
         legacy_full: 0,
@@ -59,14 +48,16 @@ fn decide(message: &[u8]) -> Refusal
 // A refusal's number and place; a place in a message fits in 16 bits.
 fn answer(refusal: Refusal) -> Column
     requires { refusal.place < 65536 }
-    ensures { (result ≡ answer_of refusal) × (length (column_of result) ≤ 2 + length (decimal refusal.place)) }
+    ensures value { result ≡ answer_of refusal }
+    ensures short { length (column_of result) ≤ 2 + length (decimal refusal.place) }
 {
     Column::Answer(refusal.number, refusal.place as u16)
 }
 
 // What the decision answers to a ClientHello that the log accepted.
 fn hello(number: u8, message: &[u8]) -> Column
-    ensures { (result ≡ hello_column number message.now) × (length (column_of result) ≤ 7) }
+    ensures value { result ≡ hello_column number message.now }
+    ensures short { length (column_of result) ≤ 7 }
 {
     if number != 0 {
         return Column::Nothing;
@@ -93,14 +84,13 @@ fn take(log: Log, message: &[u8]) -> Accepted
     log.accept(message, told)
 }
 
-// The line of a message, and the log after it.
-pub(crate) fn feed(log: Log, number: u8, message: &[u8]) -> Fed
-    ensures { Feeds log number message.now result }
+// The line of a message; the log goes on from what it answered.
+pub(crate) fn feed(log: &mut Log, number: u8, message: &[u8]) -> Line
+    ensures { Feeds log.old number message.now result log.new }
 {
-    let accepted = take(log, message);
+    let accepted = take(*log, message);
     let refusal = accepted.refusal;
     let decided = hello(refusal.number, message);
-    let line = Line::of(number, kind(message), answer(refusal), decided);
-    let next = accepted.log;
-    Fed { line, log: next }
+    *log = accepted.log;
+    line_of(number, kind(message), answer(refusal), decided)
 }

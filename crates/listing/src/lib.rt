@@ -4,7 +4,5 @@
 mod case;
 mod feed;
 mod line;
-mod text;
 
-pub use case::list;
-pub use text::Text;
+pub use case::{Text, list};

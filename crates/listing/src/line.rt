@@ -1,15 +1,12 @@
 // One line, built from the left. Each function adds a text that the line has room for.
-ghost use Rattle.std.specs.Prelude.{◌≡◌, [], ◌∷◌, ◌+◌, ◌≤◌, ◌<◌, length};
+ghost use Rattle.std.specs.Prelude.{◌≡◌, ◌∷◌, ◌++◌, ◌+◌, ◌≤◌, length};
+ghost use Rattle.refusal.specs.Table.{placed};
 ghost use Rattle.cases.specs.Digits.{decimal};
-ghost use Rattle.listing.specs.Texts.{answered, column_of, printed, line_of, Adds};
+ghost use Rattle.listing.specs.Texts.{answered, column_of, printed};
 
-use cases::decimal_of;
+use cases::{Buffer, decimal_of};
 
-#[derive(Clone, Copy)]
-pub(crate) struct Line {
-    pub bytes: [u8; 16],
-    pub length: usize,
-}
+pub(crate) type Line = Buffer<16>;
 
 // What stands in a column: nothing, printed as a dash; a number; or an answer, a number with its place.
 #[derive(Clone, Copy)]
@@ -19,89 +16,56 @@ pub(crate) enum Column {
     Answer(u8, u16),
 }
 
-impl Line {
-    fn empty() -> Line
-        ensures { (line_of result ≡ []) × (result.length ≡ 0) }
-    {
-        Line {
-            bytes: [0u8; 16],
-            length: 0,
-        }
-    }
+fn put_number(line: &mut Line, n: u16)
+    requires { length line.old + length (decimal n) ≤ 16 }
+    ensures { line.new ≡ line.old ++ decimal n }
+{
+    line.push(decimal_of(n).as_slice());
+}
 
-    fn byte(self, byte: u8) -> Line
-        requires { self.length < 16 }
-        ensures { Adds self (byte ∷ []) result }
-    {
-        let mut line = self;
-        let at = self.length;
-        line.bytes[at] = byte;
-        line.length = at + 1;
-        line
-    }
+// Has the number a place?
+fn has_place(n: u8) -> bool
+    ensures { result ≡ placed n }
+{
+    matches!(n, 1 | 2)
+}
 
-    // With more behind it.
-    fn with(self, more: &[u8]) -> Line
-        requires { self.length + length more.now ≤ 16 }
-        ensures { Adds self more.now result }
-    {
-        let start = self.length;
-        let mut bytes = self.bytes;
-        octets::put(&mut bytes[start..], more);
-        Line {
-            bytes,
-            length: start + more.len(),
-        }
+// The number, and with 1 and 2 a colon and the place.
+fn put_answer(line: &mut Line, n: u8, place: u16)
+    requires { length line.old + length (answered n place) ≤ 16 }
+    ensures { line.new ≡ line.old ++ answered n place }
+{
+    put_number(line, n as u16);
+    if has_place(n) {
+        line.push(b":");
+        put_number(line, place);
     }
+}
 
-    fn number(self, n: u16) -> Line
-        requires { self.length + length (decimal n) ≤ 16 }
-        ensures { Adds self (decimal n) result }
-    {
-        let digits = decimal_of(n);
-        let bytes = digits.bytes;
-        let length = digits.length;
-        self.with(&bytes[..length])
+// A space, and what stands in the column.
+fn put_column(line: &mut Line, column: Column)
+    requires { length line.old + 1 + length (column_of column) ≤ 16 }
+    ensures { line.new ≡ line.old ++ (32 ∷ column_of column) }
+{
+    line.push(b" ");
+    match column {
+        Column::Nothing => line.push(b"-"),
+        Column::Number(n) => put_number(line, n as u16),
+        Column::Answer(n, place) => put_answer(line, n, place),
     }
+}
 
-    // The number, and with 1 and 2 a colon and the place.
-    fn answer(self, n: u8, place: u16) -> Line
-        requires { self.length + length (answered n place) ≤ 16 }
-        ensures { Adds self (answered n place) result }
-    {
-        let line = self.number(n as u16);
-        match n {
-            1 | 2 => line.byte(b':').number(place),
-            _ => line,
-        }
-    }
-
-    fn column(self, column: Column) -> Line
-        requires { self.length + length (column_of column) ≤ 16 }
-        ensures { Adds self (column_of column) result }
-    {
-        match column {
-            Column::Nothing => self.byte(b'-'),
-            Column::Number(n) => self.number(n as u16),
-            Column::Answer(n, place) => self.answer(n, place),
-        }
-    }
-
-    // A line that begins with a message's number.
-    fn numbered(number: u8) -> Line
-        ensures { (line_of result ≡ decimal number) × (result.length ≤ 3) }
-    {
-        Line::empty().number(number as u16)
-    }
-
-    // Four columns with a space between them, and the end of the line.
-    pub(crate) fn of(number: u8, kind: Column, log: Column, hello: Column) -> Line
-        requires { length (column_of kind) + length (column_of log) + length (column_of hello) ≤ 9 }
-        ensures { (line_of result ≡ printed number kind log hello) × (result.length ≤ 16) }
-    {
-        let first = Line::numbered(number).byte(b' ');
-        let second = first.column(kind).byte(b' ');
-        let third = second.column(log).byte(b' ');
-        third.column(hello).byte(b'\n')
-    }
+// A message's number and three columns, and the end of the line.
+pub(crate) fn line_of(number: u8, kind: Column, log: Column, hello: Column) -> Line
+    requires { length (column_of kind) + length (column_of log) + length (column_of hello) ≤ 9 }
+    ensures value { result ≡ printed number kind log hello }
+    ensures short { length result ≤ 16 }
+{
+    let mut line = Buffer::empty();
+    put_number(&mut line, number as u16);
+    put_column(&mut line, kind);
+    put_column(&mut line, log);
+    put_column(&mut line, hello);
+    line.push(b"\n");
+    line
 }

@@ -5,16 +5,12 @@
 fn main(rt: HostRuntime) {
     // A case of more than 32,768 bytes is bad, however it goes on: what does not fit here is not missed.
     let mut input = io::large_buffer();
-    let read = stdio::read_from(&mut rt.stdin(), &mut input);
-    if let Some(error) = &read.error {
-        stdio::say(&rt, "loglist: standard input", error);
-        return;
-    }
-    let n = read.length;
+    let n = match stdio::read_from(&mut rt.stdin(), &mut input) {
+        Ok(n) => n,
+        Err(failed) => return stdio::say(&rt, "loglist: standard input", &failed.error),
+    };
     let text = listing::list(&input[..n]);
-    let bytes = text.bytes;
-    let length = text.length;
-    if let Err(error) = rt.write_all(&bytes[..length]) {
+    if let Err(error) = rt.write_all(text.as_slice()) {
         stdio::say(&rt, "loglist: standard output", &error);
     }
 }

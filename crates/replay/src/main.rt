@@ -5,12 +5,10 @@
 
 fn main(rt: HostRuntime) {
     let mut input = io::large_buffer();
-    let read = stdio::read_from(&mut rt.stdin(), &mut input);
-    if let Some(error) = &read.error {
-        stdio::say(&rt, "replay: standard input", error);
-        return;
-    }
-    let n = read.length;
+    let n = match stdio::read_from(&mut rt.stdin(), &mut input) {
+        Ok(n) => n,
+        Err(failed) => return stdio::say(&rt, "replay: standard input", &failed.error),
+    };
     let mut out = io::large_buffer();
     script::replay(&input[..n], &mut out);
     let size = 70 * (n / 112);

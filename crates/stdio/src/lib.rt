@@ -2,54 +2,38 @@
 // told apart, so that half a case is never taken for a whole one; why a read or a write failed is said on standard error.
 #![tactic(auto)]
 
-ghost use Rattle.std.specs.Prelude.{◌≡◌, true, false, IsSome, IsNone};
+ghost use Rattle.std.specs.Prelude.{◌≡◌, IfSome, MatchResult};
+ghost use Rattle.std.specs.Result.{result_ok};
 ghost use Rattle.io.specs.Counts.{IsPrefixLen};
 
 use std::fs::File;
 use std::io::{Cursor, Error, Read, Write};
 use std::rt::{Env, Files};
 
-// What came: so many bytes, at the buffer's start, and whether a read failed behind them. `read_from` adds why it failed.
+// A read that failed: how many bytes came before it, at the buffer's start, and why.
 #[derive(Drop)]
-pub struct Input {
+pub struct Failed {
     pub length: usize,
-    pub failed: bool,
-    pub error: Option<Error>,
+    pub error: Error,
 }
 
-// Reads until the buffer is full, the input ends or a read fails; one that a signal interrupts has failed. Which bytes come from
-// the system no contract can say.
-pub fn read_from<R: Read>(reader: &mut R, buffer: &mut [u8]) -> Input
-    ensures prefix_len { IsPrefixLen result.length buffer.new }
-    ensures reason { result.failed ≡ true → IsSome result.error }
-    ensures no_reason { result.failed ≡ false → IsNone result.error }
+// Reads until the buffer is full, the input ends or a read fails, and answers how many bytes came; a read that a signal
+// interrupts has failed. Which bytes come from the system no contract can say.
+pub fn read_from<R: Read>(reader: &mut R, buffer: &mut [u8]) -> Result<usize, Failed>
+    ensures prefix_len { MatchResult result (λ n. IsPrefixLen n buffer.new) (λ f. IsPrefixLen f.length buffer.new) }
 {
     let mut length: usize = 0;
     while length < buffer.len() {
         let more = match reader.read(&mut buffer[length..]) {
             Ok(more) => more,
-            Err(error) => {
-                return Input {
-                    length: length,
-                    failed: true,
-                    error: Some(error),
-                };
-            }
+            Err(error) => return Err(Failed { length, error }),
         };
         if more == 0 {
-            return Input {
-                length: length,
-                failed: false,
-                error: None,
-            };
+            return Ok(length);
         }
         length += more;
     }
-    Input {
-        length: length,
-        failed: false,
-        error: None,
-    }
+    Ok(length)
 }
 
 // The file that the program's argument of that number names, opened for reading; none where there is no such argument, its bytes
@@ -61,25 +45,20 @@ fn open_argument<R: Env + Files>(rt: &R, number: usize) -> Option<R::File> {
     File::open(rt, text).ok()
 }
 
-// Reads the file that the program's argument of that number names, until the buffer is full or the file ends. Where it cannot be
-// opened or a read fails, nothing was read: bytes before a failed read are no file.
-pub fn read_argument<R: Env + Files>(rt: &R, number: usize, buffer: &mut [u8]) -> Input
-    ensures prefix_len { IsPrefixLen result.length buffer.new }
-    ensures unread { result.failed ≡ true → result.length ≡ 0 }
+// What was read of a file: nothing where a read failed, for bytes before a failed read are no file.
+fn whole(read: Result<usize, Failed>) -> Option<usize>
+    ensures { result ≡ result_ok read }
 {
-    let unread = Input {
-        length: 0,
-        failed: true,
-        error: None,
-    };
-    let Some(mut file) = open_argument(rt, number) else {
-        return unread;
-    };
-    let read = read_from(&mut file, buffer);
-    if read.failed {
-        return unread;
-    }
-    read
+    read.ok()
+}
+
+// Reads the file that the program's argument of that number names, until the buffer is full or the file ends, and answers how
+// many bytes it has there; none where it cannot be opened or a read fails.
+pub fn read_argument<R: Env + Files>(rt: &R, number: usize, buffer: &mut [u8]) -> Option<usize>
+    ensures prefix_len { IfSome result (λ n. IsPrefixLen n buffer.new) }
+{
+    let mut file = open_argument(rt, number)?;
+    whole(read_from(&mut file, buffer))
 }
 
 // Writes a line to standard error: what failed, a colon and the system's words for the error, without the number that std puts behind

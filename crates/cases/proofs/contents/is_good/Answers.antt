@@ -21,7 +21,7 @@ pub loop-i-preserved : goal.loop-i-preserved
 unfolding count_of
 loop-i-preserved c =
     let s = c.args.case.now in
-    (omega arith, omega arith, omega (arith, left_more s c.loop-i.i (omega arith)))
+    (omega arith, omega (arith, left_more s c.loop-i.i (omega arith)))
 
 pub returns : goal.returns
 unfolding contents_size count_of

@@ -1,12 +1,9 @@
 -- The end of the bodies is summed up: what is left of the lengths makes up the whole.
 -- Assumes nothing.
 use mathlib.Core.Path.{◌≡◌}
-use Prim.Native.Nat.{◌+◌, ◌-◌, ◌*◌, ◌≤◌}
+use Prim.Native.Nat.{◌+◌, ◌*◌, ◌≤◌}
 use Rattle.cases.proofs.Bodies.{left}
 use Rattle.cases.proofs.contents.is_good.Given as goal
 
 abbrev pub invariant-loop-i : goal.invariant-loop-i
-invariant-loop-i l = (l.i ≤ l.count) × (l.end ≤ 511 + 65536 * l.i) × (l.end + left l.case l.i ≡ l.size + left l.case 0)
-
-abbrev pub decreases-loop-i : goal.decreases-loop-i
-decreases-loop-i l = l.count - l.i
+invariant-loop-i l = (l.end ≤ 511 + 65536 * l.i) × (l.end + left l.case l.i ≡ l.size + left l.case 0)

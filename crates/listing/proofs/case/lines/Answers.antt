@@ -1,7 +1,6 @@
 -- The messages one after the other.
 -- Assumes nothing.
-use mathlib.Core.Path.{◌≡◌}
-use Prim.Native.Nat.{◌+◌, ◌*◌, ◌-◌, ◌<◌}
+use Rattle.std.proofs.Common.{◌≡◌, ◌+◌, ◌*◌, ◌-◌, ◌<◌, ℕ, arith, length-append}
 use Rattle.message.specs.Numbers.{pair_at}
 use Rattle.cases.specs.Contents.{contents_size, count_of}
 use Rattle.cases.specs.Digits.{ascii}
@@ -9,8 +8,6 @@ use Rattle.listing.specs.Texts.{header}
 use Rattle.cases.proofs.Bodies.{left_more, left_all}
 use Rattle.cases.proofs.Cases.{good_learnt}
 use Rattle.listing.proofs.Going.{going_none, going_more, going_all}
-use Rattle.listing.proofs.Zeros.{length_of}
-use native.Mathlib.Omega.{arith}
 use Rattle.listing.proofs.case.lines.Goals as goal
 
 pub loop-i-init : goal.loop-i-init
@@ -18,18 +15,16 @@ unfolding contents_size count_of header ascii
 loop-i-init c =
     let s = c.args.case.now in
     let g = good_learnt s c.requires in
-    let e : contents_size s ≡ 1 + 2 * c.byte-count.result = omega arith in (
-      omega arith,
-      omega (arith, length_of c.headed-text.result header c.headed-text.ensures),
-      omega (arith, g.exact, left_all s),
-      rw (← e) (going_none s _ _ c.headed-text.ensures c.fresh-log.ensures),
-    )
+    let e : contents_size s ≡ 1 + 2 * c.byte-count.result = omega arith in
+    record {
+      room = rw c.headed-text.ensures (omega arith);
+      fills = omega (arith, g.exact, left_all s);
+      going = rw (← e) (going_none s _ _ c.headed-text.ensures c.fresh-log.ensures);
+    }
 
 pub slice_bounds-feed-end : goal.slice_bounds-feed-end
 unfolding count_of
-slice_bounds-feed-end c =
-    let s = c.args.case.now in
-    omega (arith, left_more s c.loop-i.i (omega arith))
+slice_bounds-feed-end c = omega (arith, left_more c.args.case.now c.loop-i.i (omega arith))
 
 pub loop-i-preserved : goal.loop-i-preserved
 unfolding count_of
@@ -40,14 +35,13 @@ loop-i-preserved c =
     let h : i < count_of s = omega arith in
     let p : c.pair.result ≡ pair_at s (1 + 2 * i) = c.pair.ensures.0 in
     let e : at + c.pair.result - at ≡ pair_at s (1 + 2 * i) = omega arith in
-    let m = left_more s i h in (
-      omega arith,
-      omega arith,
-      omega arith,
-      rw p (going_more s i at _ _ _ _ c.loop-i.invariant.3 h (rw e at c.feed-fed.ensures) c.with_line-text.ensures.1),
-    )
+    let m = left_more s i h in
+    record {
+      room = rw (c.push.ensures, c.as_slice.ensures.value) (omega (arith, length-append {A = ℕ}, c.feed-line.ensures.short));
+      fills = omega arith;
+      going = rw (c.push.ensures, c.as_slice.ensures.value, p) (going_more s i at _ _ _ _ c.loop-i.invariant.going h (rw e at c.feed-line.ensures));
+    }
 
-pub returns : goal.returns
+pub returns-clause-text : goal.returns-clause-text
 unfolding count_of
-returns c =
-    (going_all _ c.loop-i.i c.loop-i.at _ c.loop-i.log c.loop-i.invariant.3 (omega arith), omega arith)
+returns-clause-text c = going_all _ _ c.loop-i.at _ c.loop-i.log c.loop-i.invariant.going (omega arith)

@@ -13,4 +13,4 @@ unfolding column_of
 returns c =
     let r = c.args.refusal in
     let b : r.number < 256 = search rules in
-    (refl, answered_most r.number r.place (omega arith))
+    record { value = refl; short = answered_most r.number r.place (omega arith) }

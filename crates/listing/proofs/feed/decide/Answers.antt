@@ -10,4 +10,4 @@ pub returns : goal.returns
 unfolding decision_refusal decision_on
 returns c =
     ap (λ (d : Decision). d.refusal)
-    (c.decide_server-decision.ensures.answers empty c.fresh-table.ensures.keeps).answer
+    (rw c.fresh-connection.ensures at (c.decide_server-decision.ensures.answers empty c.fresh-table.ensures.keeps).answer)

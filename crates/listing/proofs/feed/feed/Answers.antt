@@ -8,24 +8,24 @@ use Rattle.listing.proofs.feed.feed.Goals as goal
 pub answer-requires : goal.answer-requires
 answer-requires c = omega (arith, c.take-accepted.ensures.short)
 
-pub of-line-requires : goal.of-line-requires
-of-line-requires c =
+pub line_of-requires : goal.line_of-requires
+line_of-requires c =
     let r = c.take-accepted.result.refusal in
     let b = c.take-accepted.ensures.short in
     columns_most r.number r.place _ _ _ _
-    c.kind.ensures.0
-    c.answer.ensures.0
-    c.hello-decided.ensures.0
-    c.kind.ensures.1
-    (omega (arith, c.answer.ensures.1, one_long r.place (omega (arith, b))))
-    c.hello-decided.ensures.1
+    c.kind.ensures.value
+    c.answer.ensures.value
+    c.hello-decided.ensures.value
+    c.kind.ensures.short
+    (omega (arith, c.answer.ensures.short, one_long r.place (omega (arith, b))))
+    c.hello-decided.ensures.short
 
 pub returns : goal.returns
 returns c =
     let taken = c.take-accepted in
     record {
-      short = c.of-line.ensures.1;
+      short = c.line_of.ensures.short;
       line = λ h s.
-          rw (c.of-line.ensures.0, c.kind.ensures.0, c.answer.ensures.0, c.hello-decided.ensures.0) (line_by _ h _ _ (taken.ensures.refusal h s));
+          rw (c.line_of.ensures.value, c.kind.ensures.value, c.answer.ensures.value, c.hello-decided.ensures.value) (line_by _ h _ _ (taken.ensures.refusal h s));
       stands = taken.ensures.stands;
     }
