@@ -2,7 +2,7 @@
 -- Assumes nothing.
 use mathlib.Core.Path.{◌≡◌, refl, sym, ◌∙◌}
 use mathlib.Core.Bool.{Bool, true, false, not}
-use mathlib.Core.List.{List, [], ◌∷◌}
+use mathlib.Core.List.{List, []}
 use Prim.Native.Nat.{ℕ, zero, suc, ◌+◌, ◌-◌, ◌≤◌, ◌<◌}
 use native.Mathlib.Omega.{arith}
 use lib.Dec.{leb, eqb}
@@ -11,13 +11,11 @@ use lib.Seq.{drop-drop}
 use borrow.Author.Tests.{eq-eqb, ne_eqb, eqb-false, leb-true, leb-false}
 use Rattle.seqs.specs.Pick.{pick}
 use Rattle.seqs.specs.Cases.{by_test}
-use Rattle.seqs.specs.Flag.{bit}
 use Rattle.message.specs.Numbers.{pair_at}
 use Rattle.hello.specs.Layout.{Parse, malformed, parsed, from, big}
-use Rattle.hello.specs.Extensions.{Extension, ri_kind, ems_kind, has, others_of, extensions_of}
+use Rattle.hello.specs.Extensions.{Extension, extensions_of}
 use Rattle.hello.specs.Fields.{Hello, is_malformed, listed, closing}
-use Rattle.hello.specs.Places.{part, part_of, bytes_part, size_of, extensions_at}
-use Rattle.hello.specs.declared.parts.Part.{Part}
+use Rattle.hello.specs.Places.{size_of}
 use Rattle.hello.specs.Cuts.{parsed_at, well_formed_at, list_in, list_at}
 use Rattle.hello.proofs.Vectors.{field_yes, field_cut}
 use Rattle.hello.proofs.Lists.{fuel, big_at, step, list_end, size_of_lem}
@@ -37,15 +35,6 @@ module _ (m : List ℕ) where
 
   pub list_size : (i : ℕ) → i ≤ length m → well_formed_at m i ≡ true → size_of (list_at m i) ≡ length m - i
   list_size i h w = size_from (length m - i) i h (omega arith) w
-
--- a type that is found does not stand at place 0
-pub found_has : (t at : ℕ) (es : List Extension) → not (eqb (part_of t at es).at 0) ≡ has t es
-unfolding part_of has
-found_has t at [] = refl
-found_has t at (e ∷ es) =
-    by_test (eqb e.kind t)
-    (λ p. rw (p, ne_eqb (at + 4) 0 (λ z. omega arith)))
-    (λ p. rw p (found_has t (at + 4 + length e.content) es))
 
 -- the block at place at
 module _ (then : Bool → List Extension → Parse Hello) (m : List ℕ) (at : ℕ) where
@@ -88,13 +77,3 @@ module _ (then : Bool → List Extension → Parse Hello) (m : List ℕ) (at : �
           go : (p : Parse (List Extension)) → not (is_malformed p) ≡ true → listed p (λ es. then true es) ≡ then true (list_in p)
           go (malformed p) q = absurd (eqb-false 1 0 refl (cc))
           go (parsed es) q = refl
-
--- what is said of a list, from the answers of the walks over it
-pub described_is : (m : List ℕ) (b : Bool) (at : ℕ) (f₀ f₁ f₂ f₃ : ℕ) (ri ems indication : Part) {o : Bool}
-    → f₀ ≡ bit b → ri ≡ part_of ri_kind at (list_at m at) → ems ≡ part_of ems_kind at (list_at m at)
-    → f₁ ≡ bit (not (eqb ri.at 0)) → indication ≡ bytes_part ri → f₂ ≡ bit (not (eqb ems.at 0))
-    → o ≡ others_of (list_at m at) → f₃ ≡ bit o → at ≤ length m → well_formed_at m at ≡ true
-    → record { block = f₀; list = part at (length m - at); indicated = f₁; indication = indication; ems = f₂; others = f₃ } ≡ extensions_at b at (list_at m at)
-unfolding extensions_at
-described_is m b at f₀ f₁ f₂ f₃ ri ems indication e₀ r s e₁ i e₂ o e₃ h w =
-    rw (e₀, e₁, e₂, e₃, i, o, r, s, found_has, found_has, list_size m at h w)

@@ -23,9 +23,8 @@ use Rattle.hello.specs.Places.{size_of, bytes_part, extensions_at, client_places
 use Rattle.hello.specs.Cuts.{well_formed_at, list_at}
 use Rattle.hello.specs.Learnt.{ExtensionsLearnt, ClientBounds, ServerBounds, ClientLearnt, ServerLearnt}
 use Rattle.hello.specs.declared.client.ClientHello.{ClientHello}
-use Rattle.hello.specs.declared.client.ClientRead.TheVariants as client
+use Rattle.std.specs.Prelude.{Ok, Err}
 use Rattle.hello.specs.declared.server.ServerHello.{ServerHello}
-use Rattle.hello.specs.declared.server.ServerRead.TheVariants as server
 use Rattle.hello.proofs.Lists.{size_of_lem}
 use Rattle.hello.proofs.Closings.{list_size}
 use Rattle.hello.proofs.Found.{points_at, ri_there, ri_not_there, ri_points, nowhere, ri_bounded}
@@ -126,19 +125,19 @@ unfolding server_fields
 server_bounds m f e = (server_fields m (server_places 4 f) f e refl).bounds
 
 -- from the answer of the reader
-pub client_learnt : (m : List ℕ) (h : ClientHello) → client.Read h ≡ client_answer (read_client m) → ClientLearnt m h
+pub client_learnt : (m : List ℕ) (h : ClientHello) → Ok h ≡ client_answer (read_client m) → ClientLearnt m h
 unfolding client_answer
 client_learnt m h e = go (read_client m) refl e
   where
-    go : (r : Reading) → read_client m ≡ r → client.Read h ≡ client_answer r → ClientLearnt m h
+    go : (r : Reading) → read_client m ≡ r → Ok h ≡ client_answer r → ClientLearnt m h
     go (fields f) p q = client_fields m h f p (cc)
     go (fault n at) p q = let z : ◌≡◌ {A = ℕ} 0 1 = cc in absurd (omega arith)
 
-pub server_learnt : (m : List ℕ) (h : ServerHello) → server.Read h ≡ server_answer (read_server m) → ServerLearnt m h
+pub server_learnt : (m : List ℕ) (h : ServerHello) → Ok h ≡ server_answer (read_server m) → ServerLearnt m h
 unfolding server_answer
 server_learnt m h e = go (read_server m) refl e
   where
-    go : (r : Reading) → read_server m ≡ r → server.Read h ≡ server_answer r → ServerLearnt m h
+    go : (r : Reading) → read_server m ≡ r → Ok h ≡ server_answer r → ServerLearnt m h
     go (fields f) p q = server_fields m h f p (cc)
     go (fault n at) p q = let z : ◌≡◌ {A = ℕ} 0 1 = cc in absurd (omega arith)
 
@@ -180,18 +179,18 @@ faulted k m n at x e q =
       bare = λ z. sym d.1 ∙ fault_bare tests refl (ap placed d.0 ∙ z);
     }
 
-pub client_fault : (m : List ℕ) (x : Refusal) → client.Refused x ≡ client_answer (read_client m) → Faulted (read_client m) x
+pub client_fault : (m : List ℕ) (x : Refusal) → Err x ≡ client_answer (read_client m) → Faulted (read_client m) x
 unfolding client_answer read_client
 client_fault m x e = go (read_client m) refl e
   where
-    go : (r : Reading) → read_client m ≡ r → client.Refused x ≡ client_answer r → Faulted (read_client m) x
+    go : (r : Reading) → read_client m ≡ r → Err x ≡ client_answer r → Faulted (read_client m) x
     go (fields f) p q = let z : ◌≡◌ {A = ℕ} 0 1 = cc in absurd (omega arith)
     go (fault n at) p q = faulted client_form m n at x p (cc)
 
-pub server_fault : (m : List ℕ) (x : Refusal) → server.Refused x ≡ server_answer (read_server m) → Faulted (read_server m) x
+pub server_fault : (m : List ℕ) (x : Refusal) → Err x ≡ server_answer (read_server m) → Faulted (read_server m) x
 unfolding server_answer read_server
 server_fault m x e = go (read_server m) refl e
   where
-    go : (r : Reading) → read_server m ≡ r → server.Refused x ≡ server_answer r → Faulted (read_server m) x
+    go : (r : Reading) → read_server m ≡ r → Err x ≡ server_answer r → Faulted (read_server m) x
     go (fields f) p q = let z : ◌≡◌ {A = ℕ} 0 1 = cc in absurd (omega arith)
     go (fault n at) p q = faulted server_form m n at x p (cc)

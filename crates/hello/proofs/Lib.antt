@@ -1,8 +1,12 @@
 pub mod Vectors
 pub mod Lists
+pub mod Tries
+pub mod Entries
 pub mod Walks
 pub mod Closings
 pub mod Repeats
+pub mod Flags
+pub mod Pairs
 pub mod Hellos
 pub mod Answers
 pub mod Inversions

@@ -4,18 +4,19 @@ use mathlib.Core.Path.{◌≡◌, refl, sym, ◌∙◌, ap}
 use mathlib.Core.Bool.{Bool, true, false}
 use mathlib.Core.List.{List, [], ◌∷◌}
 use Prim.Native.Nat.{ℕ, ◌+◌, ◌-◌, ◌≤◌, ◌<◌}
-use native.Mathlib.Nat.{add_assoc}
+use native.Mathlib.Nat.{add-zero, add_assoc}
 use native.Mathlib.Omega.{arith}
 use lib.Dec.{leb}
 use lib.ListN.{length, take, drop, length-drop}
 use lib.Seq.{drop-drop, get_or-drop, length-take-le}
-use borrow.Author.Tests.{le-leb, lt-leb, leb-true, leb-false}
+use borrow.Author.Tests.{le-leb, lt-leb, leb-true, leb-false, lt-ltb, le-ltb}
 use Rattle.seqs.specs.Pick.{pick}
 use Rattle.message.specs.Numbers.{byte_at, pair_at}
 use Rattle.hello.specs.Layout.{Parse, malformed, Left, from, past, end_of, big, field, counted, vector}
-use Rattle.hello.specs.Cuts.{Bounded, Cuts}
-use Rattle.hello.specs.declared.layout.Cut.{Cut}
-use Rattle.hello.specs.declared.layout.Cut.TheVariants.{Taken, Malformed}
+use Rattle.hello.specs.Places.{part}
+use Rattle.hello.specs.Cuts.{width_of, BrokenField, Cuts}
+use Rattle.std.specs.Prelude.{Ok}
+use Rattle.refusal.specs.declared.Reason.TheVariants as reason
 
 -- the first bytes of a list as a number
 pub big_one : (l : List ℕ) → 1 ≤ length l → big (take 1 l) ≡ byte_at l 0
@@ -98,9 +99,32 @@ module _ {A : Type 0} (then : List ℕ → Left → Parse A) (w low high : ℕ) 
         go true true false p q r = counted_yes _ w m at n e h (leb-true _ _ p) ∙ (rw (taken (leb-true _ _ p), q, r))
         go true true true p q r = absurd (never (leb-true low n q, leb-true n high r, leb-true _ _ p))
 
--- a vector, by the number that the reader found in its length
-pub cuts_of : (w low high : ℕ) (m : List ℕ) (at n : ℕ) (r : Cut) → at + w ≤ length m → n ≡ big (take w (drop at m))
-    → Bounded (length m) at (at + w) n low high r → Cuts m (at + w) (vector w low high (from m at)) r
-cuts_of w low high m at n (Malformed p) h e b = λ then. vector_no then w low high m at n e h b.1 ∙ ap malformed (sym b.0)
-cuts_of w low high m at n (Taken p) h e b =
-    (b.3, omega (arith, b.2, b.3, b.4), λ then. vector_yes then w low high m at n e h b.0 b.1 b.2 ∙ (rw (b.3, b.4)))
+-- a vector, by the number n that the reader found in its length
+module _ (w low high : ℕ) (m : List ℕ) (at : ℕ) where
+  pub cuts_short : at ≤ length m → length m - at < w → BrokenField (vector w low high (from m at)) (reason.Malformed (length m))
+  cuts_short h k = (length m, λ then. vector_short then w low high m at h k, refl)
+
+  module _ (n : ℕ) (e : n ≡ big (take w (drop at m))) (h : at + w ≤ length m) where
+    pub cuts_no : ((low ≤ n) × (n ≤ high) × (at + w + n ≤ length m) → ⊥) → BrokenField (vector w low high (from m at)) (reason.Malformed at)
+    cuts_no never = (at, λ then. vector_no then w low high m at n e h never, refl)
+
+    pub cuts_yes : low ≤ n → n ≤ high → at + w + n ≤ length m → Cuts m (at + w) (vector w low high (from m at)) (Ok (part (at + w) n))
+    cuts_yes lo hi r = (refl, r, λ then. vector_yes then w low high m at n e h lo hi r)
+
+-- the number that states a length of one byte, and of two
+pub one_at : (m : List ℕ) (at : ℕ) → at + 1 ≤ length m → byte_at m at ≡ big (take 1 (drop at m))
+one_at m at h = sym (big_one (drop at m) (rw length-drop (omega arith)) ∙ byte_drop m at 0 ∙ ap (byte_at m) (add-zero at))
+
+pub two_at : (m : List ℕ) (at : ℕ) → at + 2 ≤ length m → pair_at m at ≡ big (take 2 (drop at m))
+two_at m at h = sym (big_two (drop at m) (rw length-drop (omega arith)) ∙ pair_drop m at 0 ∙ ap (pair_at m) (add-zero at))
+
+-- what a reader took of the length: in how many bytes it stands, and the number
+pub record Stated (m : List ℕ) (at high w n : ℕ) : Type 0 where
+  pub width : w ≡ width_of high
+  pub number : at + w ≤ length m → n ≡ big (take w (drop at m))
+
+pub stated_one : (m : List ℕ) (at high n : ℕ) → high < 256 → n ≡ byte_at m at → Stated m at high 1 n
+stated_one m at high n h e = record { width = rw (lt-ltb high 256 h); number = λ k. e ∙ one_at m at k }
+
+pub stated_two : (m : List ℕ) (at high n : ℕ) → 256 ≤ high → n ≡ pair_at m at → Stated m at high 2 n
+stated_two m at high n h e = record { width = rw (le-ltb high 256 h); number = λ k. e ∙ two_at m at k }

@@ -3,6 +3,7 @@ pub mod Extensions
 pub mod Fields
 pub mod Places
 pub mod Cuts
+pub mod Entries
 pub mod Written
 pub mod Learnt
 pub mod Next

@@ -1,10 +1,10 @@
 -- The answers of the two readers: the fields as places in the message, counted from its first byte, or the refusal. Every place
 -- follows from the lengths of the fields before it.
 -- Assumes nothing.
-use Rattle.std.specs.Prelude.{◌≡◌, Bool, List, [], ◌∷◌, ℕ, ◌+◌, ◌-◌, ◌≤◌, eqb, length, take, drop}
+use Rattle.std.specs.Prelude.{◌≡◌, Bool, List, [], ◌∷◌, ℕ, ◌+◌, ◌-◌, ◌≤◌, eqb, length, take, drop, Result, Ok, Err}
 use Rattle.seqs.specs.Pick.{pick}
 use Rattle.seqs.specs.Flag.{bit}
-use Rattle.refusal.specs.Table.{refusal_of, refusal_at}
+use Rattle.refusal.specs.Table.{refusal_at}
 use Rattle.refusal.specs.declared.Refusal.{Refusal}
 use Rattle.hello.specs.Layout.{big}
 use Rattle.hello.specs.Extensions.{Extension, ri_kind, ems_kind, has, others_of}
@@ -12,11 +12,7 @@ use Rattle.hello.specs.Fields.{Hello, Reading, fields, fault, signal_in, identif
 use Rattle.hello.specs.declared.parts.Part.{Part}
 use Rattle.hello.specs.declared.parts.Extensions.{Extensions}
 use Rattle.hello.specs.declared.client.ClientHello.{ClientHello}
-use Rattle.hello.specs.declared.client.ClientRead.{ClientRead}
-use Rattle.hello.specs.declared.client.ClientRead.TheVariants as client
 use Rattle.hello.specs.declared.server.ServerHello.{ServerHello}
-use Rattle.hello.specs.declared.server.ServerRead.{ServerRead}
-use Rattle.hello.specs.declared.server.ServerRead.TheVariants as server
 
 abbrev pub part : ℕ → ℕ → Part
 part at n = record { at = at; length = n }
@@ -87,19 +83,10 @@ server_places start f =
       extensions = extensions_at f.block (server_list_at start f) f.extensions;
     }
 
-unfoldable pub client_answer : Reading → ClientRead
-client_answer (fields f) = client.Read (client_places client_form.start f)
-client_answer (fault n p) = client.Refused (refusal_at n p)
+unfoldable pub client_answer : Reading → Result ClientHello Refusal
+client_answer (fields f) = Ok (client_places client_form.start f)
+client_answer (fault n p) = Err (refusal_at n p)
 
-unfoldable pub server_answer : Reading → ServerRead
-server_answer (fields f) = server.Read (server_places server_form.start f)
-server_answer (fault n p) = server.Refused (refusal_at n p)
-
--- the refusal of an answer, number 0 where there is none
-unfoldable pub client_refusal : ClientRead → Refusal
-client_refusal (client.Read h) = refusal_of 0
-client_refusal (client.Refused r) = r
-
-unfoldable pub server_refusal : ServerRead → Refusal
-server_refusal (server.Read h) = refusal_of 0
-server_refusal (server.Refused r) = r
+unfoldable pub server_answer : Reading → Result ServerHello Refusal
+server_answer (fields f) = Ok (server_places server_form.start f)
+server_answer (fault n p) = Err (refusal_at n p)

@@ -1,68 +1,57 @@
 // The extension block of a hello, which is its last field.
-ghost use Rattle.std.specs.Prelude.{◌≡◌, true, ◌+◌, ◌≤◌, ◌<◌, ◌^◌, length};
-ghost use Rattle.hello.specs.Cuts.{well_formed_at, list_at, Blocks};
-ghost use Rattle.hello.specs.Places.{bytes_part, extensions_at};
+ghost use Rattle.std.specs.Prelude.{◌≡◌, ◌+◌, ◌≤◌, ◌<◌, ◌^◌, length};
+ghost use Rattle.hello.specs.Cuts.{list_at, Blocks};
+ghost use Rattle.hello.specs.Places.{behind, bytes_part, extensions_at};
 
-use crate::parts::{Extensions, Part, flag};
-use crate::walk::{EMS, RI, Walked, find, others, walk};
+use crate::list::List;
+use crate::parts::{Extensions, Part};
+use crate::walk::{EMS, RI};
 use message::pair;
-
-#[derive(Clone, Copy)]
-pub(crate) enum Block {
-    Read(Extensions),
-    // the place of the fault
-    Malformed(usize),
-}
+use refusal::Reason;
 
 // Nothing, or a length that covers exactly the rest, and extensions.
-pub(crate) fn read_block(message: &[u8], at: usize) -> Block
+pub(crate) fn read_block(message: &[u8], at: usize) -> Result<Extensions, Reason>
     requires { at ≤ length message.now }
     ensures { Blocks message.now at result }
 {
     if at == message.len() {
-        return Block::Read(described(message, false, at));
+        return Ok(described(List { message, at }, false));
     }
     if message.len() - at < 2 {
-        return Block::Malformed(message.len());
+        return Err(Reason::Malformed(message.len()));
     }
     let list = at + 2;
     if pair(message, at) != message.len() - list {
-        return Block::Malformed(at);
+        return Err(Reason::Malformed(at));
     }
-    match walk(message, list) {
-        Walked::Broken(place) => Block::Malformed(place),
-        Walked::Whole => Block::Read(described(message, true, list)),
-    }
+    Ok(described(List::read(message, list)?, true))
 }
 
-// What the extensions from place `at` on say.
-fn described(message: &[u8], block: bool, at: usize) -> Extensions
-    requires within { at ≤ length message.now }
-    requires well_formed { well_formed_at message.now at ≡ true }
-    ensures { result ≡ extensions_at block at (list_at message.now at) }
+// What the extensions say.
+fn described(list: List, block: bool) -> Extensions
+    ensures { result ≡ extensions_at block list.entry.at (list_at list.entry.message.now list.entry.at) }
 {
-    let ri = find(message, at, RI);
-    let ems = find(message, at, EMS);
+    let ri = list.data_of(RI);
     Extensions {
-        block: flag(block),
+        block: u8::from(block),
         list: Part {
-            at,
-            length: message.len() - at,
+            at: list.at,
+            length: list.message.len() - list.at,
         },
-        indicated: flag(ri.at != 0),
-        indication: behind_length(ri),
-        ems: flag(ems.at != 0),
-        others: flag(others(message, at)),
+        indicated: u8::from(ri.is_some()),
+        indication: ri.map(behind_length).unwrap_or_default(),
+        ems: u8::from(list.data_of(EMS).is_some()),
+        others: u8::from(list.has_others()),
     }
 }
 
 // The bytes of an RI, of which the first byte is the number.
 fn behind_length(data: Part) -> Part
-    requires { «data».at + «data».length < 2 ^ 64 }
+    requires { behind «data» < 2 ^ 64 }
     ensures { result ≡ bytes_part «data» }
 {
     if data.length == 0 {
-        return Part { at: 0, length: 0 };
+        return Part::default();
     }
     Part {
         at: data.at + 1,

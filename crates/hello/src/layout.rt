@@ -2,81 +2,43 @@
 ghost use Rattle.std.specs.Prelude.{◌≡◌, ◌+◌, ◌≤◌};
 ghost use lib.ListN.{length};
 ghost use Rattle.hello.specs.Layout.{from, vector};
-ghost use Rattle.hello.specs.Cuts.{place_in, Bounded, Cuts, Opens};
+ghost use Rattle.hello.specs.Cuts.{width_of, Cuts, Opens};
 
 use crate::parts::Part;
 use message::{byte, pair};
-
-#[derive(Clone, Copy)]
-pub(crate) enum Cut {
-    Taken(Part),
-    // the place of the fault
-    Malformed(usize),
-}
-
-impl Cut {
-    // The place of the fault; 0 where there is none.
-    pub(crate) fn place(self) -> usize
-        ensures { result ≡ place_in self }
-    {
-        match self {
-            Cut::Taken(_) => 0,
-            Cut::Malformed(place) => place,
-        }
-    }
-}
+use refusal::Reason;
 
 // Where the body of a message begins, behind the header.
 pub(crate) const BODY: usize = 4;
 
-// A vector whose length takes one byte, at place `at`.
-pub(crate) fn vector8(message: &[u8], at: usize, low: usize, high: usize) -> Cut
+// A vector of `low` to `high` bytes, at place `at`. Its length takes as many bytes as `high` does, one or two.
+pub(crate) fn vector(message: &[u8], at: usize, low: usize, high: usize) -> Result<Part, Reason>
     requires { at ≤ length message.now }
-    ensures { Cuts message.now (at + 1) (vector 1 low high (from message.now at)) result }
+    ensures { Cuts message.now (at + width_of high) (vector (width_of high) low high (from message.now at)) result }
 {
-    if message.len() - at < 1 {
-        return Cut::Malformed(message.len());
+    let (width, length) = if high < 256 {
+        (1, byte(message, at))
+    } else {
+        (2, pair(message, at))
+    };
+    if message.len() - at < width {
+        return Err(Reason::Malformed(message.len()));
     }
-    bounded(message, at, at + 1, byte(message, at), low, high)
-}
-
-// A vector whose length takes two bytes, at place `at`.
-pub(crate) fn vector16(message: &[u8], at: usize, low: usize, high: usize) -> Cut
-    requires { at ≤ length message.now }
-    ensures { Cuts message.now (at + 2) (vector 2 low high (from message.now at)) result }
-{
-    if message.len() - at < 2 {
-        return Cut::Malformed(message.len());
+    let start = at + width;
+    if length < low || high < length || message.len() - start < length {
+        return Err(Reason::Malformed(at));
     }
-    bounded(message, at, at + 2, pair(message, at), low, high)
-}
-
-// So many bytes at place `at`, where that many are left and the number is within the bounds; else the fault is `own`, the place of the
-// length.
-fn bounded(message: &[u8], own: usize, at: usize, length: usize, low: usize, high: usize) -> Cut
-    requires { at ≤ lib.ListN.length message.now }
-    ensures { Bounded (lib.ListN.length message.now) own at length low high result }
-{
-    if length < low {
-        return Cut::Malformed(own);
-    }
-    if high < length {
-        return Cut::Malformed(own);
-    }
-    if message.len() - at < length {
-        return Cut::Malformed(own);
-    }
-    Cut::Taken(Part { at, length })
+    Ok(Part { at: start, length })
 }
 
 // How both hellos begin: version, random and the session identifier, which is the part taken.
-pub(crate) fn opening(message: &[u8], start: usize) -> Cut
+pub(crate) fn opening(message: &[u8], start: usize) -> Result<Part, Reason>
     requires { start ≤ length message.now }
     ensures { Opens message.now start result }
 {
     let at = start + 34;
     if message.len() < at {
-        return Cut::Malformed(message.len());
+        return Err(Reason::Malformed(message.len()));
     }
-    vector8(message, at, 0, 32)
+    vector(message, at, 0, 32)
 }

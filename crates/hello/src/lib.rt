@@ -5,15 +5,16 @@
 mod client;
 mod extensions;
 mod layout;
+mod list;
 mod next;
 mod parts;
 mod server;
 mod suites;
 mod walk;
 
-pub use client::{ClientHello, ClientRead, read_client_hello};
+pub use client::{ClientHello, read_client_hello};
 pub use next::{Next, next_extension};
 pub use parts::{Extensions, Part};
-pub use server::{ServerHello, ServerRead, read_server_hello};
+pub use server::{ServerHello, read_server_hello};
 pub use suites::lists_suite;
 pub use walk::well_shaped;

@@ -8,13 +8,7 @@ use message::pair;
 pub fn lists_suite(suites: &[u8], suite: u16) -> bool
     ensures { result ≡ lists suite suites.now }
 {
-    let wanted = suite as usize;
-    let mut i = 0;
-    while 2 <= suites.len() - i {
-        if pair(suites, i) == wanted {
-            return true;
-        }
-        i += 2;
-    }
-    false
+    suites
+        .chunks_exact(2)
+        .any(|bytes| pair(bytes, 0) == suite as usize)
 }

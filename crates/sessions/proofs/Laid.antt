@@ -1,12 +1,15 @@
 -- A queue that is laid out: its sessions, without one of them, and with one more.
 -- Assumes nothing.
-use mathlib.Core.Path.{◌≡◌, refl, sym, ◌∙◌, ap, ap₂}
+use mathlib.Core.Path.{◌≡◌, refl, sym, ◌∙◌, ap, ap₂, subst}
 use mathlib.Core.List.{List, [], ◌∷◌, ◌++◌, map, map-append, append_assoc}
 use Prim.Native.Nat.{ℕ, zero, suc, ◌+◌, ◌-◌, ◌*◌, ◌/◌, ◌%◌, ◌≤◌, ◌<◌}
 use native.Mathlib.Numerals.{add-one}
 use native.Mathlib.Omega.{arith}
 use lib.ListN.{length, take, drop, get_or, set, replicate, length-map, length-append, length-take, length-drop}
-use lib.Seq.{take_at, drop_at, drop-drop, set_at, set_split}
+use Rattle.std.specs.List.{copy_within}
+use Rattle.std.proofs.lemmas.List.{drop-take}
+use Rattle.std.proofs.lemmas.List.Edits.{take-paste, drop-paste}
+use lib.Seq.{take-take, length-paste, take_at, drop_at, drop-drop, set_at, set_split}
 use Rattle.seqs.specs.Cut.{cut}
 use Rattle.seqs.proofs.Cut.{Shifted}
 use Rattle.seqs.proofs.Flag.{yes_bit}
@@ -32,12 +35,13 @@ pub sessions_laid : (a : ℕ) (b : Book) → Each (λ (s : Session). s.axle ≡ 
 unfolding sessions_of laid
 sessions_laid a b e = sessions_rows a b (replicate (8 - length b) no_session) e
 
+pub laid_held : (b : Book) → length (take (laid b).held (laid b).rows) ≡ length b
+unfolding laid
+laid_held b = ap length (take_at (map row_of b) (replicate (8 - length b) no_session) (length b) (length-map b row_of)) ∙ length-map b row_of
+
 pub laid_length : (a : ℕ) (b : Book) → length (sessions_of a (laid b)) ≡ length b
-unfolding sessions_of laid
-laid_length a b =
-    length-map (take (length b) (map row_of b ++ replicate (8 - length b) no_session)) (session_of a)
-    ∙ ap length (take_at (map row_of b) (replicate (8 - length b) no_session) (length b) (length-map b row_of))
-    ∙ length-map b row_of
+unfolding sessions_of
+laid_length a b = length-map (take (laid b).held (laid b).rows) (session_of a) ∙ laid_held b
 
 -- ---- without one
 
@@ -67,6 +71,30 @@ laid_cut b rows i j s e h =
     let left : 8 - j ≡ suc (8 - length b) = omega arith in
     rw (c, left) (ap (λ (r : List Row). record { rows = r; held = j })
     (set_split rows j no_session k ∙ ap₂ (λ (x y : List Row). x ++ (no_session ∷ y)) front back))
+
+-- those behind it moved up in one step
+pub shifted_at_once : {A : Type 0} (l : List A) (i j : ℕ) → i ≤ j → j < length l → Shifted l (copy_within l (i + 1) (j + 1) i) i j
+unfolding cut
+shifted_at_once l i j h k =
+    let m : j ≡ i + (j - i) = omega arith in
+    let n : j + 1 ≡ suc i + (j - i) = omega arith in
+    let o : j + 1 - (i + 1) ≡ j - i = omega arith in
+    let s : length (drop (i + 1) l) ≡ length l - (i + 1) = length-drop (i + 1) l in
+    let r : j - i ≤ length (drop (i + 1) l) = omega arith in
+    record {
+      from = h;
+      below = k;
+      long = length-paste l i (drop (i + 1) l) (j + 1 - (i + 1)) (omega arith) (omega arith);
+      moved =
+          subst (λ (x : ℕ). take x (copy_within l (i + 1) (j + 1) i) ≡ cut i (take (j + 1) l)) (sym m)
+          (rw o (take-paste l i (drop (i + 1) l) (j - i) (omega arith) r
+          ∙ ap₂ (λ (x y : List _). x ++ y) (sym (take-take i (j + 1) l (omega arith)))
+          (ap (λ (x : ℕ). take (j - i) (drop x l)) (add-one i) ∙ sym (drop-take (suc i) (j - i) l) ∙ ap (λ (x : ℕ). drop (suc i) (take x l)) (sym n))
+          ));
+      rest =
+          subst (λ (x : ℕ). drop x (copy_within l (i + 1) (j + 1) i) ≡ drop x l) (sym m)
+          (rw o (drop-paste l i (drop (i + 1) l) (j - i) (omega arith) r));
+    }
 
 -- ---- with one more
 

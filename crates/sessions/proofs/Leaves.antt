@@ -2,27 +2,21 @@
 -- 01's five cases.
 -- Assumes nothing.
 use mathlib.Core.Path.{◌≡◌, sym, ◌∙◌, ap}
-use mathlib.Core.Bool.{Bool, true, false}
+use mathlib.Core.Bool.{true, false}
 use mathlib.Core.List.{List}
-use mathlib.Core.Logic.{⊎_elim}
 use Prim.Native.Nat.{ℕ, ◌≤◌, ◌<◌}
-use native.Mathlib.Omega.{arith}
-use lib.Dec.{eqb, leb}
 use lib.ListN.{length}
-use borrow.Author.Tests.{eqb-true, leb-true, leb-false}
 use Rattle.seqs.specs.Cut.{cut}
-use Rattle.seqs.proofs.Cut.{cut_past}
-use Rattle.seqs.specs.Cases.{which}
-use Rattle.sessions.specs.Book.{Book, strike, there, is_of, is_named, holds, sought, fullest}
+use Rattle.sessions.specs.Book.{Book, strike, there, is_of, is_named, holds, sought, fullest, struck}
 use Rattle.sessions.specs.Keeps.{part_of, session_of}
-use Rattle.sessions.specs.Places.{place, Goes}
+use Rattle.sessions.specs.Places.{Goes}
 use Rattle.sessions.proofs.Names.{named_of}
 use Rattle.sessions.proofs.Parts.{part_length, part_first, part_sought, part_goes}
-use Rattle.sessions.proofs.Places.{no_row, place_strike, place_oldest, place_none}
+use Rattle.sessions.proofs.Places.{no_row, place, place_strike, place_oldest, place_none}
 use Rattle.sessions.proofs.Ways.{struck_named, struck_eighth, struck_room, struck_own, struck_other}
 
--- q is the axle's queue, and full says whether there are 32 in all
-module _ (a : ℕ) (i : List ℕ) (b q : Book) (e : q ≡ part_of a b) (full : Bool) (f : full ≡ leb 32 (length b)) where
+-- q is the axle's queue
+module _ (a : ℕ) (i : List ℕ) (b q : Book) (e : q ≡ part_of a b) where
   holds_is : holds a b ≡ length q
   holds_is = rw e (sym (part_length a b))
 
@@ -40,21 +34,16 @@ module _ (a : ℕ) (i : List ℕ) (b q : Book) (e : q ≡ part_of a b) (full : B
     leaves_eighth h c = rw (struck_eighth a i b none (holds_is ∙ h)) (part_goes b a 0 (is_of a) (λ s y. y) (sym (part_first a b)) c)
 
     module _ (few : length q ≡ 8 → ⊥) where
-      pub leaves_none : full ≡ false → Goes a i b a (length q)
-      leaves_none h c =
-          rw (struck_room a i b none (λ x. few (sym holds_is ∙ x)) (leb-false 32 (length b) (sym f ∙ h)))
-          (⊎_elim
-          (λ (y : eqb c a ≡ true). rw (y, eqb-true c a y) (sym (cut_past (length q) (part_of a b) (rw e (omega arith)))))
-          (λ (n : eqb c a ≡ false). rw n)
-          (which (eqb c a)))
+      pub leaves_none : length b < 32 → (c : ℕ) → part_of c (struck a i b) ≡ part_of c b
+      leaves_none h c = rw (struck_room a i b none (λ x. few (sym holds_is ∙ x)) h)
 
-      module _ (all : full ≡ true) where
+      module _ (all : 32 ≤ length b) where
         pub leaves_own : 4 ≤ length q → Goes a i b a 0
         leaves_own h c =
-            rw (struck_own a i b none (λ x. few (sym holds_is ∙ x)) (leb-true 32 (length b) (sym f ∙ all)) (rw holds_is h))
+            rw (struck_own a i b none (λ x. few (sym holds_is ∙ x)) all (rw holds_is h))
             (part_goes b a 0 (is_of a) (λ s y. y) (sym (part_first a b)) c)
 
         pub leaves_other : length q < 4 → Goes a i b (fullest b) 0
         leaves_other h c =
-            rw (struck_other a i b none (λ x. few (sym holds_is ∙ x)) (leb-true 32 (length b) (sym f ∙ all)) (rw holds_is h))
+            rw (struck_other a i b none (λ x. few (sym holds_is ∙ x)) all (rw holds_is h))
             (part_goes b (fullest b) 0 (is_of (fullest b)) (λ s y. y) (sym (part_first (fullest b) b)) c)

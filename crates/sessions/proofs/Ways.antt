@@ -1,9 +1,11 @@
 -- Which session a store strikes out: document 01's five cases, each by what decides it.
 -- Assumes nothing.
-use mathlib.Core.Path.{◌≡◌}
+use mathlib.Core.Path.{◌≡◌, refl}
 use mathlib.Core.Bool.{true, false}
 use mathlib.Core.List.{List}
-use Prim.Native.Nat.{ℕ, ◌≤◌, ◌<◌}
+use Prim.Native.Nat.{ℕ, zero, suc, ◌+◌, ◌≤◌, ◌<◌}
+use native.Mathlib.Numerals.{add-one}
+use native.Mathlib.Omega.{arith}
 use lib.ListN.{length}
 use borrow.Author.Tests.{eq-eqb, ne_eqb, lt-ltb, le-ltb, le-leb, lt-leb}
 use Rattle.sessions.specs.Book.{Book, strike, there, is_of, is_named, holds, sought, fuller, fullest, struck}
@@ -39,3 +41,18 @@ fuller_second b a c h = rw (lt-ltb (holds a b) (holds c b) h)
 pub fuller_first : (b : Book) (a c : ℕ) → holds c b ≤ holds a b → a ≡ fuller b a c
 unfolding fuller
 fuller_first b a c h = rw (le-ltb (holds a b) (holds c b) h)
+
+-- the fullest of the first axles
+unfoldable pub fullest_of : Book → ℕ → ℕ
+fullest_of b zero = 1
+fullest_of b (suc zero) = 1
+fullest_of b (suc (suc n)) = fuller b (fullest_of b (suc n)) (suc (suc n))
+
+pub fullest_six : (b : Book) → fullest_of b 6 ≡ fullest b
+unfolding fullest_of fullest
+fullest_six b = refl
+
+pub fullest_next : (b : Book) (n : ℕ) → 1 ≤ n → fullest_of b (n + 1) ≡ fuller b (fullest_of b n) (suc n)
+unfolding fullest_of
+fullest_next b zero h = absurd (omega arith)
+fullest_next b (suc n) h = rw add-one refl

@@ -2,6 +2,7 @@
 -- t is the table passed, s a session, a the axle, i the identifier, and r what the call returns.
 -- Assumes nothing.
 use Rattle.std.specs.Prelude.{◌≡◌, Bool, false, List, ℕ}
+use Rattle.std.specs.Prelude as std
 use Rattle.std.proofs.Math.Option.{Option, none, some}
 use Rattle.seqs.specs.Flag.{bit}
 use Rattle.refusal.specs.Table.{refusal_of}
@@ -13,8 +14,7 @@ use Rattle.sessions.specs.declared.calls.Looked.{Looked}
 use Rattle.sessions.specs.declared.calls.Withdrawn.{Withdrawn}
 use Rattle.sessions.specs.declared.calls.Held.{Held}
 use Rattle.sessions.specs.declared.calls.Cleared.{Cleared}
-use Rattle.sessions.specs.declared.calls.Known.{Known}
-use Rattle.sessions.specs.declared.calls.Known.TheVariants.{Nothing, Found}
+use Rattle.sessions.specs.declared.row.Weighed.{Weighed}
 
 -- ---- fresh: 'It begins empty.'
 
@@ -103,11 +103,14 @@ pub record Clears (t : Table) (r : Cleared) : Type 0 where
 
 -- ---- what a decision asks of a session: whether there is one, with EMS or not, and its suite
 
-abbrev pub known_of : Option Session → Known
-known_of none = Nothing
-known_of (some s) = Found (record { ems = bit s.ems; suite = s.suite })
+abbrev pub weighed : Session → Weighed
+weighed s = record { ems = s.ems; suite = s.suite }
 
-pub record Knows (t : Table) (a : ℕ) (i : List ℕ) (r : Known) : Type 0 where
+abbrev pub known_of : Option Session → std.Option Weighed
+known_of none = std.None
+known_of (some s) = std.Some (weighed s)
+
+pub record Knows (t : Table) (a : ℕ) (i : List ℕ) (r : std.Option Weighed) : Type 0 where
   -- whatever the table is, the answer is that of some book
   pub book : Book
   pub of_book : r ≡ known_of (sought a i book)

@@ -1,12 +1,11 @@
 // The calls on the table. A refusal leaves the table and what is lent as they were.
-ghost use Rattle.std.specs.Prelude.{◌≡◌, Bool, ℕ};
-ghost use Rattle.seqs.specs.Flag.{yes, bit};
-ghost use Rattle.sessions.specs.Book.{bad_axle, bad_name, store_number, withdraw_number};
+ghost use Rattle.std.specs.Prelude.{◌≡◌, ◌<◌, IfOk};
+ghost use Rattle.sessions.specs.Places.{place_of, named_place, stored_in, looked_in, withdrawn_in};
 ghost use Rattle.sessions.specs.Promises.{Starts, Stores, LooksUp, Withdraws, CountsHeld, Clears, Knows};
 
-use crate::row::Row;
+use crate::row::{Row, Weighed};
 use crate::table::Table;
-use refusal::{Refusal, refuse};
+use refusal::{Reason, Refusal, refuse};
 
 #[repr(C)]
 #[derive(Clone, Copy)]
@@ -47,69 +46,39 @@ pub struct Cleared {
     pub table: Table,
 }
 
-// What a decision weighs of a session, and no secret. Of `ems` 0 is no and everything else is yes.
-#[derive(Clone, Copy)]
-pub struct Weighed {
-    pub ems: u8,
-    pub suite: u16,
-}
-
-#[derive(Clone, Copy)]
-pub enum Known {
-    Nothing,
-    Found(Weighed),
-}
-
-fn bad_axle(axle: u8) -> bool
-    ensures { result ≡ bad_axle axle }
+// The place of an axle's queue.
+fn place_of(axle: u8) -> Result<usize, Reason>
+    ensures within { IfOk result (λ own. own < 6) }
+    ensures value { result ≡ place_of axle }
 {
-    if axle < 1 {
-        return true;
+    match axle {
+        1..=6 => Ok(usize::from(axle) - 1),
+        _ => Err(Reason::Name),
     }
-    if 6 < axle {
-        return true;
-    }
-    false
 }
 
-fn bad_name(axle: u8, identifier: &[u8]) -> bool
-    ensures { result ≡ bad_name axle identifier.now }
+// The same, where the identifier is one that a session can have.
+fn named_place(axle: u8, identifier: &[u8]) -> Result<usize, Reason>
+    ensures within { IfOk result (λ own. own < 6) }
+    ensures value { result ≡ named_place axle identifier.now }
 {
-    if bad_axle(axle) {
-        return true;
+    match identifier.len() {
+        1..=32 => place_of(axle),
+        _ => Err(Reason::Name),
     }
-    if identifier.len() < 1 {
-        return true;
-    }
-    if 32 < identifier.len() {
-        return true;
-    }
-    false
 }
 
-fn store_number(axle: u8, identifier: &[u8], secret: &[u8]) -> u8
-    ensures { (ems : Bool) (suite : ℕ) → result ≡ store_number (record { axle = axle; identifier = identifier.now; ems = ems; suite = suite; secret = secret.now }) }
-{
-    if bad_name(axle, identifier) {
-        return 11;
+impl Looked {
+    fn nothing(refusal: Refusal) -> Looked
+        ensures { result ≡ record { refusal = refusal; found = 0; ems = 0; suite = 0 } }
+    {
+        Looked {
+            refusal,
+            found: 0,
+            ems: 0,
+            suite: 0,
+        }
     }
-    if secret.len() != 48 {
-        return 10;
-    }
-    0
-}
-
-fn withdraw_number(axle: u8, identifier: &[u8]) -> u8
-    ensures { result ≡ withdraw_number axle identifier.now }
-{
-    if bad_name(axle, identifier) { 11 } else { 0 }
-}
-
-// A flag as we write it.
-fn flag(x: u8) -> u8
-    ensures { result ≡ bit (yes x) }
-{
-    if x == 0 { 0 } else { 1 }
 }
 
 impl Table {
@@ -121,103 +90,117 @@ impl Table {
     }
 
     // One session goes, if any, and the new one is written last.
-    pub fn store(self, axle: u8, identifier: &[u8], ems: bool, suite: u16, secret: &[u8]) -> Stored
+    pub fn store(
+        mut self,
+        axle: u8,
+        identifier: &[u8],
+        ems: bool,
+        suite: u16,
+        secret: &[u8],
+    ) -> Stored
         ensures { Stores self (record { axle = axle; identifier = identifier.now; ems = ems; suite = suite; secret = secret.now }) result }
     {
-        let number = store_number(axle, identifier, secret);
-        let refusal = refuse(number);
-        let mut table = self;
-        if number == 0 {
-            let own = axle as usize - 1;
-            let full = 32 <= self.total();
-            let numbers = self.numbers();
-            let goes = table.queues[own].victim(own, identifier, full, numbers);
-            let from = goes.queue;
-            // where none goes, the place is the first free one: the queue is not copied for nothing
-            if goes.place < numbers[from] as usize {
-                table.queues[from] = table.queues[from].without(goes.place);
-            }
-            let row = Row::of(identifier, ems, suite, secret);
-            table.queues[own] = table.queues[own].pushed(row);
+        let refusal = Refusal::of(self.write(axle, identifier, ems, suite, secret));
+        Stored {
+            refusal,
+            table: self,
         }
-        Stored { refusal, table }
+    }
+
+    fn write(
+        &mut self,
+        axle: u8,
+        identifier: &[u8],
+        ems: bool,
+        suite: u16,
+        secret: &[u8],
+    ) -> Result<(), Reason>
+        ensures { Stores self.old (record { axle = axle; identifier = identifier.now; ems = ems; suite = suite; secret = secret.now }) (stored_in result self.new) }
+    {
+        let own = named_place(axle, identifier)?;
+        if secret.len() != 48 {
+            return Err(Reason::Length);
+        }
+        if let Some(goes) = self.victim(own, identifier) {
+            self.queues[goes.queue].remove(goes.place);
+        }
+        let row = Row::of(identifier, ems, suite, secret);
+        self.queues[own].push(row);
+        Ok(())
     }
 
     // Writes the secret of the session found to the front of out, and nothing else.
     pub fn look_up(self, axle: u8, identifier: &[u8], out: &mut [u8]) -> Looked
         ensures { LooksUp self axle identifier.now out.old result out.new }
     {
-        if bad_name(axle, identifier) {
-            return Looked {
-                refusal: refuse(11),
-                found: 0,
-                ems: 0,
-                suite: 0,
-            };
-        }
-        let row = self.named(axle, identifier);
-        if row.size == 0 {
-            return Looked {
+        match self.hand_out(axle, identifier, out) {
+            Ok(Some(session)) => Looked {
                 refusal: refuse(0),
-                found: 0,
-                ems: 0,
-                suite: 0,
-            };
-        }
-        let number = octets::put(out, &row.secret);
-        let refusal = refuse(number);
-        if number != 0 {
-            return Looked {
-                refusal,
-                found: 0,
-                ems: 0,
-                suite: 0,
-            };
-        }
-        let ems = flag(row.ems);
-        Looked {
-            refusal,
-            found: 1,
-            ems,
-            suite: row.suite_number(),
+                found: 1,
+                ems: u8::from(session.ems),
+                suite: session.suite,
+            },
+            Ok(None) => Looked::nothing(refuse(0)),
+            Err(reason) => Looked::nothing(Refusal::from(reason)),
         }
     }
 
-    pub fn withdraw(self, axle: u8, identifier: &[u8]) -> Withdrawn
+    fn hand_out(
+        &self,
+        axle: u8,
+        identifier: &[u8],
+        out: &mut [u8],
+    ) -> Result<Option<Weighed>, Reason>
+        ensures { LooksUp self.now axle identifier.now out.old (looked_in result) out.new }
+    {
+        let own = named_place(axle, identifier)?;
+        let Some(row) = self.queues[own].named(identifier) else {
+            return Ok(None);
+        };
+        octets::put(out, &row.secret)?;
+        Ok(Some(row.weighed()))
+    }
+
+    pub fn withdraw(mut self, axle: u8, identifier: &[u8]) -> Withdrawn
         ensures { Withdraws self axle identifier.now result }
     {
-        let number = withdraw_number(axle, identifier);
-        let refusal = refuse(number);
-        let mut withdrawn = 0;
-        let mut table = self;
-        if number == 0 {
-            let own = axle as usize - 1;
-            let numbers = self.numbers();
-            let i = table.queues[own].find(identifier);
-            withdrawn = table.queues[own].taken(i);
-            // where none is found, the queue is not copied for nothing
-            if i < numbers[own] as usize {
-                table.queues[own] = table.queues[own].without(i);
-            }
-        }
+        let (refusal, withdrawn) = match self.strike(axle, identifier) {
+            Ok(found) => (refuse(0), u8::from(found)),
+            Err(reason) => (Refusal::from(reason), 0),
+        };
         Withdrawn {
             refusal,
             withdrawn,
-            table,
+            table: self,
         }
+    }
+
+    // Strikes the session of that axle and identifier out; was one there?
+    fn strike(&mut self, axle: u8, identifier: &[u8]) -> Result<bool, Reason>
+        ensures { Withdraws self.old axle identifier.now (withdrawn_in result self.new) }
+    {
+        let own = named_place(axle, identifier)?;
+        let Some(place) = self.queues[own].find(identifier) else {
+            return Ok(false);
+        };
+        self.queues[own].remove(place);
+        Ok(true)
     }
 
     pub fn held(self, axle: u8) -> Held
         ensures { CountsHeld self axle result }
     {
-        if bad_axle(axle) {
-            return Held {
-                refusal: refuse(11),
-                count: 0,
-            };
-        }
-        let number = self.number(axle);
-        let count = if number < 8 { number } else { 8 };
+        let own = match place_of(axle) {
+            Ok(own) => own,
+            Err(reason) => {
+                return Held {
+                    refusal: Refusal::from(reason),
+                    count: 0,
+                };
+            }
+        };
+        let held = self.queues[own].held;
+        let count = held.min(8);
         Held {
             refusal: refuse(0),
             count,
@@ -233,21 +216,14 @@ impl Table {
         }
     }
 
-    // Is there a session of that axle and identifier, with EMS or not, and of which suite? No secret is handed out.
-    pub fn known(self, axle: u8, identifier: &[u8]) -> Known
-        ensures { Knows self axle identifier.now result }
+    // What is weighed of the session of that axle and identifier, if there is one. No secret is handed out.
+    pub fn known(&self, axle: u8, identifier: &[u8]) -> Option<Weighed>
+        ensures { Knows self.now axle identifier.now result }
     {
-        if bad_name(axle, identifier) {
-            return Known::Nothing;
-        }
-        let row = self.named(axle, identifier);
-        if row.size == 0 {
-            return Known::Nothing;
-        }
-        let ems = flag(row.ems);
-        Known::Found(Weighed {
-            ems,
-            suite: row.suite_number(),
-        })
+        let Ok(own) = named_place(axle, identifier) else {
+            return None;
+        };
+        let row = self.queues[own].named(identifier)?;
+        Some(row.weighed())
     }
 }

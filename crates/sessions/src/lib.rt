@@ -5,10 +5,9 @@
 mod calls;
 mod queue;
 mod row;
-mod six;
 mod table;
 
-pub use calls::{Cleared, Held, Known, Looked, Stored, Weighed, Withdrawn};
+pub use calls::{Cleared, Held, Looked, Stored, Withdrawn};
 pub use queue::Queue;
-pub use row::Row;
+pub use row::{Row, Weighed};
 pub use table::Table;

@@ -1,13 +1,12 @@
 // An axle's sessions in order of storing, the oldest first.
-ghost use Rattle.std.specs.Prelude.{◌≡◌, [], ◌∷◌, ◌++◌, ℕ, suc, ◌≤◌, ◌<◌, leb, ltb, length};
-ghost use Rattle.seqs.specs.Flag.{bit};
+ghost use Rattle.std.specs.Prelude.{◌≡◌, [], ◌∷◌, ◌++◌, ℕ, ◌≤◌, ◌<◌, IfSome, length, take};
+ghost use Rattle.std.specs.List.{position};
 ghost use Rattle.seqs.specs.Cut.{cut};
-ghost use Rattle.sessions.specs.Book.{Session, Book, is_named, holds, sought};
-ghost use Rattle.sessions.specs.Keeps.{Sound, part_of, row_of, laid, six, sessions_of};
-ghost use Rattle.sessions.specs.Places.{place, session_in, Goes};
+ghost use Rattle.sessions.specs.Book.{Session, Book, is_named, sought};
+ghost use Rattle.sessions.specs.Keeps.{row_of, laid, sessions_of};
+ghost use Rattle.sessions.specs.Places.{session_at};
 
 use crate::row::Row;
-use crate::six;
 
 // The first `held` places count, the others are blank.
 #[repr(C)]
@@ -15,13 +14,6 @@ use crate::six;
 pub struct Queue {
     pub rows: [Row; 8],
     pub held: u8,
-}
-
-// A session by its queue and its place there.
-#[derive(Clone, Copy)]
-pub struct Spot {
-    pub queue: usize,
-    pub place: usize,
 }
 
 impl Queue {
@@ -34,116 +26,54 @@ impl Queue {
         }
     }
 
-    // How many places count.
-    pub(crate) fn size(self) -> usize
-        ensures { ((a : ℕ) → result ≡ length (sessions_of a self)) × (result ≤ 8) }
+    // The places that count. A number held of more than there are is all of them.
+    pub(crate) fn sessions(&self) -> &[Row]
+        ensures { (result.now ≡ take self.now.held self.now.rows) × (length result.now ≤ 8) }
     {
-        if self.held < 8 { self.held as usize } else { 8 }
+        &self.rows[..usize::from(self.held).min(8)]
     }
 
-    // A flag: is there a session at i?
-    pub(crate) fn taken(self, i: usize) -> u8
-        ensures { (a : ℕ) → result ≡ bit (ltb i (length (sessions_of a self))) }
+    // The place of the session of that identifier.
+    pub(crate) fn find(&self, identifier: &[u8]) -> Option<usize>
+        ensures within { IfSome result (λ i. i < 8) }
+        ensures found { (a : ℕ) → result ≡ position (is_named a identifier.now) (sessions_of a self.now) }
     {
-        if i < self.size() { 1 } else { 0 }
+        self.sessions()
+            .iter()
+            .position(|row| row.is_named(identifier))
     }
 
-    // The place of the session of that identifier, or the size.
-    pub(crate) fn find(self, identifier: &[u8]) -> usize
-        ensures { (a : ℕ) → result ≡ place (is_named a identifier.now) (sessions_of a self) }
+    // The session of that identifier, in its place.
+    pub(crate) fn named(&self, identifier: &[u8]) -> Option<&Row>
+        ensures { (a : ℕ) → session_at a result ≡ sought a identifier.now (sessions_of a self.now) }
     {
-        let n = self.size();
-        let mut i = 0;
-        while i < n {
-            let row = self.rows[i];
-            if row.is_named(identifier) {
-                return i;
-            }
-            i += 1;
-        }
-        n
+        let i = self.find(identifier)?;
+        Some(&self.rows[i])
     }
 
-    // The session of that identifier in its place, or a blank place.
-    pub(crate) fn named(self, identifier: &[u8]) -> Row
-        requires { 1 ≤ length identifier.now }
-        ensures { (a : ℕ) → session_in a result ≡ sought a identifier.now (sessions_of a self) }
+    // Takes the session at i out, if there is one: those behind it move up, and the place that is free then is blanked.
+    pub(crate) fn remove(&mut self, i: usize)
+        ensures { (b : Book) → self.old ≡ laid b → length b ≤ 8 → self.new ≡ laid (cut i b) }
     {
-        let i = self.find(identifier);
-        if self.size() <= i {
-            return Row::blank();
-        }
-        self.rows[i]
-    }
-
-    // Which session goes when one of that identifier comes to this queue, which is the one at `own`; where none does, the first free
-    // place of it. The cases are document 01's, in its order; `full`: there are 32 in all.
-    pub(crate) fn victim(self, own: usize, identifier: &[u8], full: bool, numbers: [u8; 6]) -> Spot
-        requires { own < 6 }
-        ensures { (result.queue < 6) × ((b : Book) → sessions_of (suc own) self ≡ part_of (suc own) b → full ≡ leb 32 (length b) → numbers ≡ six (λ a. holds a b) → Sound b → Goes (suc own) identifier.now b (suc result.queue) result.place) }
-    {
-        let oldest = 0;
-        let n = self.size();
-        let i = self.find(identifier);
-        if i < n {
-            return Spot {
-                queue: own,
-                place: i,
-            };
-        }
-        if n == 8 {
-            return Spot {
-                queue: own,
-                place: oldest,
-            };
-        }
-        if !full {
-            return Spot {
-                queue: own,
-                place: n,
-            };
-        }
-        if 4 <= n {
-            return Spot {
-                queue: own,
-                place: oldest,
-            };
-        }
-        Spot {
-            queue: six::fullest(numbers),
-            place: oldest,
-        }
-    }
-
-    // Without the session at i, if there is one: those behind it move up, and the place that is free then is blanked.
-    pub(crate) fn without(mut self, i: usize) -> Queue
-        ensures { (b : Book) → self ≡ laid b → length b ≤ 8 → result ≡ laid (cut i b) }
-    {
-        let n = self.size();
+        let n = self.sessions().len();
         if n <= i {
-            return self;
+            return;
         }
-        let mut j = i;
-        while j + 1 < n {
-            self.rows[j] = self.rows[j + 1];
-            j += 1;
-        }
-        let free = j;
+        self.rows.copy_within(i + 1..n, i);
+        let free = n - 1;
         self.rows[free] = Row::blank();
-        self.held = j as u8;
-        self
+        self.held = n as u8 - 1;
     }
 
     // With one session more, the last, if there is room.
-    pub(crate) fn pushed(mut self, row: Row) -> Queue
-        ensures { (b : Book) (s : Session) → self ≡ laid b → row ≡ row_of s → length b ≤ 7 → result ≡ laid (b ++ (s ∷ [])) }
+    pub(crate) fn push(&mut self, row: Row)
+        ensures { (b : Book) (s : Session) → self.old ≡ laid b → row ≡ row_of s → length b ≤ 7 → self.new ≡ laid (b ++ (s ∷ [])) }
     {
-        let n = self.size();
+        let n = self.sessions().len();
         if 8 <= n {
-            return self;
+            return;
         }
         self.rows[n] = row;
         self.held = n as u8 + 1;
-        self
     }
 }

@@ -2,6 +2,7 @@
 ghost use Rattle.std.specs.Prelude.{◌≡◌, ℕ, ◌≤◌, length, take};
 ghost use Rattle.sessions.specs.Book.{is_named};
 ghost use Rattle.sessions.specs.Keeps.{row_of, no_session, session_of};
+ghost use Rattle.sessions.specs.Promises.{weighed};
 
 // The identifier is the first `size` bytes; 0 in `ems` is no, everything else yes; of the suite the high byte comes first. It is two
 // bytes and no number, so that a table has no padding.
@@ -15,6 +16,13 @@ pub struct Row {
     pub secret: [u8; 48],
 }
 
+// What a decision weighs of a session, and no secret.
+#[derive(Clone, Copy)]
+pub struct Weighed {
+    pub ems: bool,
+    pub suite: u16,
+}
+
 impl Row {
     // A place that holds no session.
     pub(crate) fn blank() -> Row
@@ -23,9 +31,9 @@ impl Row {
         Row {
             ems: 0,
             size: 0,
-            suite: [0u8; 2],
-            identifier: [0u8; 32],
-            secret: [0u8; 48],
+            suite: [0; 2],
+            identifier: [0; 32],
+            secret: [0; 48],
         }
     }
 
@@ -34,13 +42,12 @@ impl Row {
         requires { (length identifier.now ≤ 32) × (length secret.now ≡ 48) }
         ensures { (a : ℕ) → result ≡ row_of (record { axle = a; identifier = identifier.now; ems = ems; suite = suite; secret = secret.now }) }
     {
-        let mut name = [0u8; 32];
-        octets::put(&mut name, identifier);
-        let mut key = [0u8; 48];
-        octets::put(&mut key, &secret[..48]);
-        let flag = if ems { 1 } else { 0 };
+        let mut name = [0; 32];
+        name[..identifier.len()].copy_from_slice(identifier);
+        let mut key = [0; 48];
+        key.copy_from_slice(secret);
         Row {
-            ems: flag,
+            ems: u8::from(ems),
             size: identifier.len() as u8,
             suite: [(suite / 256) as u8, (suite % 256) as u8],
             identifier: name,
@@ -48,26 +55,24 @@ impl Row {
         }
     }
 
-    // How long the identifier is.
-    fn width(self) -> usize
-        ensures { (result ≡ length (take self.size self.identifier)) × (result ≤ 32) }
+    fn name(&self) -> &[u8]
+        ensures { result.now ≡ take self.now.size self.now.identifier }
     {
-        let n = self.size as usize;
-        if n < 32 { n } else { 32 }
+        &self.identifier[..usize::from(self.size).min(32)]
     }
 
-    // The suite as a number.
-    pub(crate) fn suite_number(self) -> u16
-        ensures { (a : ℕ) → result ≡ (session_of a self).suite }
+    pub(crate) fn is_named(&self, identifier: &[u8]) -> bool
+        ensures { (a : ℕ) → result ≡ is_named a identifier.now (session_of a self.now) }
     {
-        octets::number(self.suite[0], self.suite[1])
+        octets::same(self.name(), identifier)
     }
 
-    pub(crate) fn is_named(self, identifier: &[u8]) -> bool
-        ensures { (a : ℕ) → result ≡ is_named a identifier.now (session_of a self) }
+    pub(crate) fn weighed(&self) -> Weighed
+        ensures { (a : ℕ) → result ≡ weighed (session_of a self.now) }
     {
-        let n = self.width();
-        let name = self.identifier;
-        octets::same(&name[..n], identifier)
+        Weighed {
+            ems: self.ems != 0,
+            suite: octets::number(self.suite[0], self.suite[1]),
+        }
     }
 }

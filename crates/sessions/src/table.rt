@@ -1,17 +1,22 @@
-// A queue for each axle, that of axle 1 first. Where a table is only read, the places are literals: then nothing of it is copied
-// but what is asked for.
-ghost use Rattle.std.specs.Prelude.{◌≡◌, ◌≤◌, length};
-ghost use Rattle.sessions.specs.Book.{Book, empty, sought};
-ghost use Rattle.sessions.specs.Keeps.{Sound, six, table_of, queue_of, held_in};
-ghost use Rattle.sessions.specs.Places.{session_in};
+// A queue for each axle, that of axle 1 first.
+ghost use Rattle.std.specs.Prelude.{◌≡◌, suc, ◌<◌, IfSome, length};
+ghost use Rattle.sessions.specs.Book.{Book, empty, fullest};
+ghost use Rattle.sessions.specs.Keeps.{Sound, table_of, Keeps};
+ghost use Rattle.sessions.specs.Places.{Leaves};
 
 use crate::queue::Queue;
-use crate::row::Row;
 
 #[repr(C)]
 #[derive(Clone, Copy)]
 pub struct Table {
     pub queues: [Queue; 6],
+}
+
+// A session by its queue and its place there.
+#[derive(Clone, Copy)]
+pub(crate) struct Spot {
+    pub queue: usize,
+    pub place: usize,
 }
 
 impl Table {
@@ -24,58 +29,54 @@ impl Table {
     }
 
     // How many sessions there are, all together.
-    pub(crate) fn total(self) -> usize
-        ensures { (b : Book) → self ≡ table_of b → Sound b → result ≡ length b }
+    fn total(&self) -> usize
+        ensures { (b : Book) → self.now ≡ table_of b → Sound b → result ≡ length b }
     {
-        self.queues[0].size()
-            + self.queues[1].size()
-            + self.queues[2].size()
-            + self.queues[3].size()
-            + self.queues[4].size()
-            + self.queues[5].size()
-    }
-
-    // The six numbers held.
-    pub(crate) fn numbers(self) -> [u8; 6]
-        ensures { result ≡ six (held_in self) }
-    {
-        [
-            self.queues[0].held,
-            self.queues[1].held,
-            self.queues[2].held,
-            self.queues[3].held,
-            self.queues[4].held,
-            self.queues[5].held,
-        ]
-    }
-
-    // The number held of an axle.
-    pub(crate) fn number(self, axle: u8) -> u8
-        requires { (1 ≤ axle) × (axle ≤ 6) }
-        ensures { result ≡ held_in self axle }
-    {
-        match axle {
-            1 => self.queues[0].held,
-            2 => self.queues[1].held,
-            3 => self.queues[2].held,
-            4 => self.queues[3].held,
-            5 => self.queues[4].held,
-            _ => self.queues[5].held,
+        let mut total = 0;
+        for queue in &self.queues {
+            total += queue.sessions().len();
         }
+        total
     }
 
-    // The session of that axle and identifier in its place, or a blank place.
-    pub(crate) fn named(self, axle: u8, identifier: &[u8]) -> Row
-        requires { (1 ≤ axle) × (axle ≤ 6) × (1 ≤ length identifier.now) }
-        ensures { session_in axle result ≡ sought axle identifier.now (queue_of self axle) }
+    // The place of the queue that holds most, the first at a tie.
+    fn fullest(&self) -> usize
+        ensures { (result < 6) × ((b : Book) → self.now ≡ table_of b → suc result ≡ fullest b) }
     {
-        match axle {
-            1 => self.queues[0].named(identifier),
-            2 => self.queues[1].named(identifier),
-            3 => self.queues[2].named(identifier),
-            4 => self.queues[3].named(identifier),
-            5 => self.queues[4].named(identifier),
-            _ => self.queues[5].named(identifier),
+        let mut most = 0;
+        for own in 1..6 {
+            if self.queues[most].held < self.queues[own].held {
+                most = own;
+            }
         }
+        most
+    }
+
+    // Which session goes, if one does, when one of that identifier comes to the queue at `own`. The cases are document 01's, in
+    // its order.
+    pub(crate) fn victim(&self, own: usize, identifier: &[u8]) -> Option<Spot>
+        requires { own < 6 }
+        ensures within { IfSome result (λ spot. spot.queue < 6) }
+        ensures leaves { (b : Book) → Keeps self.now b → Leaves own identifier.now b result }
+    {
+        let queue = &self.queues[own];
+        if let Some(place) = queue.find(identifier) {
+            return Some(Spot { queue: own, place });
+        }
+        let oldest = 0;
+        let n = queue.sessions().len();
+        let from = if n == 8 {
+            own
+        } else if self.total() < 32 {
+            return None;
+        } else if 4 <= n {
+            own
+        } else {
+            self.fullest()
+        };
+        Some(Spot {
+            queue: from,
+            place: oldest,
+        })
     }
 }

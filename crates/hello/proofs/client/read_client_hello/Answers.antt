@@ -1,54 +1,45 @@
 -- A ClientHello: the header, the layout, then the repeat and the version.
 -- Assumes nothing.
-use mathlib.Core.Path.{◌∙◌, subst}
+use Rattle.std.proofs.Common.{sym, ◌∙◌}
 use borrow.Author.Tests.{lt-ltb, le-ltb}
-use Rattle.hello.specs.Cuts.{ClientLays}
-use Rattle.hello.specs.declared.client.ClientRead.TheVariants as client
+use Rattle.hello.proofs.Tries.{handed_on}
 use Rattle.hello.proofs.Answers.{client_reader, Typed, typed, out_frame, out_malformed, out_twice, out_version, out_fields}
 use Rattle.hello.proofs.client.read_client_hello.Goals as goal
-use Rattle.hello.proofs.client.read_client_hello.Goals.{In-Read, In-Whole}
+use Rattle.hello.proofs.client.read_client_hello.Goals.{In_ok-frame_as}
 
--- by its header, and by the layout of its body
-is_client : (c : In-Whole) → Typed client_reader c.args.message.now
+-- by its header
+is_client : (c : In_ok-frame_as) → Typed client_reader c.args.message.now
 unfolding client_reader
-is_client c = typed client_reader _ c.frame_as-framed.ensures c.in-Whole.is
+is_client c = typed client_reader _ c.in_ok-frame_as.field-0 c.in_ok-frame_as.ensures
 
-laid : (c : In-Read) → ClientLays c.args.message.now 4 (client.Read c.in-Read.hello)
-laid c = subst (ClientLays _ _) c.in-Read.is c.lay_client-laid.ensures
-
-pub returns-in_default : goal.returns-in_default
+pub returns-in_err-frame_as : goal.returns-in_err-frame_as
 unfolding client_reader
-returns-in_default c = out_frame client_reader _ c.frame_as-framed.ensures c.in_default.is c.refusal.ensures
+returns-in_err-frame_as c =
+    rw (handed_on c.from_residual.result _ c.from_residual.ensures.1) (out_frame client_reader _ _ c.in_err-frame_as.ensures)
 
-pub lay_client-laid-requires : goal.lay_client-laid-requires
-lay_client-laid-requires c = (is_client (goal.at.lay_client-laid-requires c).In-Whole).shortest
+pub lay_client-requires : goal.lay_client-requires
+lay_client-requires c = (is_client (goal.at.lay_client-requires c).In_ok-frame_as).shortest
 
-pub returns-in_default-laid : goal.returns-in_default-laid
+pub returns-in_err-hello : goal.returns-in_err-hello
 unfolding client_reader
-returns-in_default-laid c =
-    let t = c.in_default-laid.is in
-    t ∙ out_malformed client_reader _ (is_client (goal.at.returns-in_default-laid c).In-Whole) (subst (ClientLays c.args.message.now 4) t c.lay_client-laid.ensures)
+returns-in_err-hello c =
+    rw (handed_on c.from_residual-in_err-hello.result _ c.from_residual-in_err-hello.ensures.1)
+    (out_malformed client_reader _ _ (is_client (goal.at.returns-in_err-hello c).In_ok-frame_as) c.in_err-hello.ensures)
 
-pub repeat-place-requires : goal.repeat-place-requires
-repeat-place-requires c = let l = laid (goal.at.repeat-place-requires c).In-Read in record { within = l.3.0; well_formed = l.3.1 }
-
-pub returns-then-place-ne0 : goal.returns-then-place-ne0
+pub returns-in-Some : goal.returns-in-Some
 unfolding client_reader
-returns-then-place-ne0 c =
-    let l = laid (goal.at.returns-then-place-ne0 c).In-Read in
-    let i = is_client (goal.at.returns-then-place-ne0 c).In-Whole in
-    out_twice client_reader _ i l.1 l.2 l.3.2 l.3.3 c.repeat-place.ensures c.if-place-ne0.true c.refuse_at.ensures
+returns-in-Some c =
+    let l = c.in_ok-hello.ensures in
+    out_twice client_reader _ (is_client (goal.at.returns-in-Some c).In_ok-frame_as) l.1 l.2 l.3.2 l.3.3 _ (sym c.repeat.ensures ∙ c.in-Some.is)
 
 pub returns-then-hello-lt-LOWEST : goal.returns-then-hello-lt-LOWEST
 unfolding client_reader
 returns-then-hello-lt-LOWEST c =
-    let l = laid (goal.at.returns-then-hello-lt-LOWEST c).In-Read in
-    let i = is_client (goal.at.returns-then-hello-lt-LOWEST c).In-Whole in
-    out_version client_reader _ i l.1 l.2 l.3.2 l.3.3 c.repeat-place.ensures c.if-place-ne0.false (lt-ltb _ 771 c.if-hello-lt-LOWEST.true) c.refuse.ensures
+    let l = c.in_ok-hello.ensures in
+    out_version client_reader _ (is_client (goal.at.returns-then-hello-lt-LOWEST c).In_ok-frame_as) l.1 l.2 l.3.2 l.3.3 (sym c.repeat.ensures ∙ c.in_default.is) (lt-ltb _ 771 c.if-hello-lt-LOWEST.true)
 
 pub returns : goal.returns
 unfolding client_reader
 returns c =
-    let l = laid (goal.at.returns c).In-Read in
-    let i = is_client (goal.at.returns c).In-Whole in
-    out_fields client_reader _ i l.1 l.2 l.3.2 l.3.3 c.repeat-place.ensures c.if-place-ne0.false (le-ltb _ 771 c.if-hello-lt-LOWEST.false)
+    let l = c.in_ok-hello.ensures in
+    out_fields client_reader _ (is_client (goal.at.returns c).In_ok-frame_as) l.1 l.2 l.3.2 l.3.3 (sym c.repeat.ensures ∙ c.in_default.is) (le-ltb _ 771 c.if-hello-lt-LOWEST.false)

@@ -1,15 +1,15 @@
 -- The extension block.
 -- Assumes nothing.
-use mathlib.Core.Path.{◌∙◌, subst}
-use mathlib.Core.Bool.{true, false}
-use native.Mathlib.Omega.{arith}
-use Rattle.hello.specs.Cuts.{Walks}
+use Rattle.std.proofs.Common.{◌≡◌, refl, sym, ◌∙◌, ap₂, false, true, List, ℕ, ◌+◌, arith}
+use Rattle.hello.specs.Places.{extensions_at}
+use Rattle.hello.specs.Cuts.{well_formed_at, list_at}
+use Rattle.hello.proofs.Tries.{handed_on}
 use Rattle.hello.proofs.Lists.{whole_end, list_end}
 use Rattle.hello.proofs.Closings.{closing_none, closing_short, closing_other, closing_bad, closing_yes}
 use Rattle.hello.proofs.extensions.read_block.Goals as goal
 
-pub described-requires : goal.described-requires
-described-requires c =
+pub invariant_of-described : goal.invariant_of-described
+invariant_of-described c =
     let a = c.args in
     record { within = omega arith; well_formed = whole_end a.message.now a.at (omega arith) }
 
@@ -21,26 +21,26 @@ returns-then-at-message c =
 
 pub returns-then-message-at-lt2 : goal.returns-then-message-at-lt2
 returns-then-message-at-lt2 c =
-    let a = c.args in
-    λ then. closing_short then a.message.now a.at (omega arith) (omega arith)
+    let m = c.args.message.now in
+    (_, λ then. closing_short then m c.args.at (omega arith) (omega arith), refl)
 
 pub returns-then-pair-message : goal.returns-then-pair-message
 returns-then-pair-message c =
     let a = c.args in
-    λ then. closing_other then a.message.now a.at c.pair.result c.pair.ensures.0 (omega arith) c.if-pair-message.true
+    (_, λ then. closing_other then a.message.now a.at c.pair.result c.pair.ensures.0 (omega arith) c.if-pair-message.true, refl)
 
-pub described-requires-in-Whole : goal.described-requires-in-Whole
-described-requires-in-Whole c =
-    record { within = omega arith; well_formed = subst (Walks _ _) c.in-Whole.is c.walk.ensures }
-
-pub returns-in-Broken : goal.returns-in-Broken
-returns-in-Broken c =
+pub returns-in_err-read : goal.returns-in_err-read
+returns-in_err-read c =
     let a = c.args in
-    let b = subst (Walks _ _) c.in-Broken.is c.walk.ensures in
-    λ then. closing_bad then a.message.now a.at c.pair.result c.pair.ensures.0 (omega arith) (omega arith) _ b
+    let b = c.in_err-read.ensures in
+    rw (handed_on c.from_residual.result _ c.from_residual.ensures.1)
+    (b.0, λ then. closing_bad then a.message.now a.at c.pair.result c.pair.ensures.0 (omega arith) (omega arith) b.0 b.1, b.2)
 
-pub returns-in-Whole : goal.returns-in-Whole
-returns-in-Whole c =
+pub returns : goal.returns
+returns c =
     let a = c.args in
-    let g = subst (Walks _ _) c.in-Whole.is c.walk.ensures in
-    (true, omega arith, g, c.described-in-Whole.ensures, λ then. closing_yes then a.message.now a.at c.pair.result c.pair.ensures.0 (omega arith) (omega arith) g)
+    let m = a.message.now in
+    let l = c.in_ok-read.field-0 in
+    let k = c.in_ok-read.ensures in
+    let w : well_formed_at m (a.at + 2) ≡ true = ap₂ well_formed_at (sym k.0) (sym k.1) ∙ l.well_formed in
+    (true, omega arith, w, c.described-2.ensures ∙ ap₂ (λ (n : List ℕ) (i : ℕ). extensions_at true i (list_at n i)) k.0 k.1, λ then. closing_yes then m a.at c.pair.result c.pair.ensures.0 (omega arith) (omega arith) w)

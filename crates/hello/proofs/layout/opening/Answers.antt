@@ -8,4 +8,4 @@ pub returns-then-message-at : goal.returns-then-message-at
 returns-then-message-at c = let a = c.args in opens_short a.message.now a.start (omega arith) (omega arith)
 
 pub returns : goal.returns
-returns c = let a = c.args in opens_then a.message.now a.start (omega arith) c.vector8.result (omega arith) c.vector8.ensures
+returns c = let a = c.args in opens_then a.message.now a.start (omega arith) c.vector.result (omega arith) c.vector.ensures

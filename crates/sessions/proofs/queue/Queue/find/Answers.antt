@@ -1,46 +1,19 @@
--- The first row with the name.
+-- A search through the sessions.
 -- Assumes nothing.
-use mathlib.Core.Path.{sym, ◌∙◌}
-use mathlib.Core.Bool.{true, false}
-use Prim.Native.Nat.{◌<◌}
-use native.Mathlib.Nat.{zero-add}
-use native.Mathlib.Omega.{arith}
-use lib.ListN.{length}
-use Rattle.sessions.specs.Keeps.{session_of, sessions_of}
+use Rattle.std.proofs.Common.{rules, tests, ◌∙◌, take}
+use Rattle.std.proofs.lemmas.Iterator.{YieldsList-from_slice}
+use Rattle.std.proofs.lemmas.Iterator.Search.{position_from_yields_List}
 use Rattle.sessions.specs.Book.{is_named}
-use Rattle.sessions.proofs.Places.{no_row, meets_at, place_here, place_next, place_end}
+use Rattle.sessions.specs.Keeps.{session_of, sessions_of}
+use Rattle.sessions.specs.declared.row.Row.{Row}
+use Rattle.sessions.proofs.Places.{found_map}
 use Rattle.sessions.proofs.queue.Queue.find.Goals as goal
 
-pub loop-i-init : goal.loop-i-init
-loop-i-init c = (omega arith, λ a. sym (zero-add _))
-
-pub returns-then-is_named : goal.returns-then-is_named
-returns-then-is_named c =
-    let g = c.args in
-    let i = c.loop-i.i in
+pub returns-clause-found : goal.returns-clause-found
+unfolding sessions_of
+returns-clause-found c =
     λ a.
-    let p = is_named a g.identifier.now in
-    let b = sessions_of a g.self in
-    let h : i < length b = omega (arith, c.size-n.ensures.0 a) in
-    let e = place_here p b i (session_of a no_row) h (meets_at a g.self i h p true (sym (c.is_named.ensures a) ∙ c.if-is_named.true)) in
-    omega (arith, e, c.loop-i.invariant.1 a)
-
-pub loop-i-preserved : goal.loop-i-preserved
-loop-i-preserved c =
-    let g = c.args in
-    let i = c.loop-i.i in (
-      omega arith,
-      λ a.
-          let p = is_named a g.identifier.now in
-          let b = sessions_of a g.self in
-          let h : i < length b = omega (arith, c.size-n.ensures.0 a) in
-          let e = place_next p b i (session_of a no_row) h (meets_at a g.self i h p false (sym (c.is_named.ensures a) ∙ c.if-is_named.false)) in
-          omega (arith, e, c.loop-i.invariant.1 a),
-    )
-
-pub returns : goal.returns
-returns c =
-    let g = c.args in
-    λ a.
-    let s = c.size-n.ensures.0 a in
-    omega (arith, s, place_end (is_named a g.identifier.now) (sessions_of a g.self) c.loop-i.i (omega (arith, s)), c.loop-i.invariant.1 a)
+    let i = c.args.identifier.now in
+    let q = c.args.self.now in
+    position_from_yields_List (λ (r : Row). is_named a i (session_of a r)) _ _ _ c.position.ensures.ran (YieldsList-from_slice c.sessions.result.now cc) (λ x b f k. search (rules, tests))
+    ∙ (rw c.sessions.ensures.0 (found_map (is_named a i) (session_of a) (take q.held q.rows)))

@@ -1,34 +1,26 @@
 -- The session at the place found.
 -- Assumes nothing.
-use mathlib.Core.Path.{◌≡◌, sym, ◌∙◌, ap}
-use mathlib.Core.Option.{some}
-use Prim.Native.Nat.{◌<◌}
-use native.Mathlib.Omega.{arith}
-use lib.ListN.{length, get_or}
-use Rattle.sessions.specs.Book.{is_named, sought}
+use Rattle.std.proofs.Common.{sym, ◌∙◌, ap, arith, ◌<◌, length}
+use Rattle.std.proofs.Math.Option.{some}
+use Rattle.sessions.specs.Book.{is_named}
 use Rattle.sessions.specs.Keeps.{session_of, sessions_of}
-use Rattle.sessions.proofs.Books.{oldest_meets}
-use Rattle.sessions.proofs.Fields.{named_in, none_in}
-use Rattle.sessions.proofs.Places.{no_row, session_at, place_oldest, place_none}
+use Rattle.sessions.proofs.Places.{no_row, place, session_in, found_at, found_none, place_oldest, place_none}
 use Rattle.sessions.proofs.queue.Queue.named.Goals as goal
 
-pub returns-then-size-i : goal.returns-then-size-i
-returns-then-size-i c =
-    let q = c.args.self in
+pub returns-in_err-i : goal.returns-in_err-i
+returns-in_err-i c =
+    let q = c.args.self.now in
     let i = c.args.identifier.now in
-    λ a.
-    let k = c.find-i.ensures a in
-    rw c.blank.ensures (none_in a ∙ sym (place_none (is_named a i) (sessions_of a q) (omega (arith, k, c.size.ensures.0 a, c.if-size-i.true))))
+    λ a. rw c.from_residual.ensures (sym (place_none (is_named a i) (sessions_of a q) (found_none (is_named a i) (sessions_of a q) (c.in_err-i.ensures.found a))))
 
 pub returns : goal.returns
 returns c =
-    let q = c.args.self in
+    let q = c.args.self.now in
     let i = c.args.identifier.now in
-    let n = c.find-i.result in
+    let n = c.in_ok-i.i in
     λ a.
     let b = sessions_of a q in
-    let k = c.find-i.ensures a in
-    let h : n < length b = omega (arith, c.size.ensures.0 a, c.if-size-i.false) in
-    let s = session_of a (get_or q.rows n no_row) in
-    let e : sought a i b ≡ some s = place_oldest (is_named a i) (session_of a no_row) b (rw k at h) ∙ ap some (rw (← k) (session_at a q n h)) in
-    named_in a i (get_or q.rows n no_row) c.requires (oldest_meets (is_named a i) b s e) ∙ sym e
+    let p = is_named a i in
+    let f = found_at p b n (c.in_ok-i.ensures.found a) in
+    let h : place p b < length b = omega (arith, f.0, f.1) in
+    sym (place_oldest p (session_of a no_row) b h ∙ ap some (rw (← f.0) (session_in a q n f.1)))

@@ -1,23 +1,23 @@
 -- The number stored, unless the axle is refused.
 -- Assumes nothing.
-use mathlib.Core.Path.{sym, ◌∙◌}
-use native.Mathlib.Omega.{arith}
-use Rattle.sessions.proofs.Kept.{counts_11, counts_0}
-use Rattle.sessions.proofs.Sound.{good_axle}
+use Rattle.std.proofs.Common.{sym, ◌∙◌, ap, rules, arith, ◌≡◌, length}
+use Rattle.seqs.specs.Array.{length_mapped}
+use Rattle.refusal.specs.Reason.{refusal_for}
+use Rattle.sessions.proofs.Kept.{placed_ok, placed_err, counts_name, counts_done}
+use Rattle.sessions.proofs.Queues.{held_read}
 use Rattle.sessions.proofs.table.Table.held.Goals as goal
-use Rattle.sessions.proofs.table.Table.held.Goals.{then-number-lt8, else-number-lt8}
 
-pub returns-then-bad_axle : goal.returns-then-bad_axle
-returns-then-bad_axle c = let a = c.args in counts_11 a.self a.axle c.refuse.result (sym c.bad_axle.ensures ∙ c.if-bad_axle.true) c.refuse.ensures
-
-pub number-number-requires : goal.number-number-requires
-number-number-requires c = let a = c.args in good_axle a.axle (sym c.bad_axle.ensures ∙ c.if-bad_axle.false)
+pub returns-in-Err : goal.returns-in-Err
+returns-in-Err c =
+    let a = c.args in
+    let e = placed_err a.axle c.in-Err.reason c.in-Err.ensures.value in
+    counts_name a.self a.axle c.from.result e.1 (c.from.ensures ∙ ap refusal_for e.0)
 
 pub returns : goal.returns
 returns c =
     let a = c.args in
-    let good = sym c.bad_axle.ensures ∙ c.if-bad_axle.false in
-    let g = good_axle a.axle good in
-    let n = c.number-number.ensures in
-    counts_0 a.self a.axle c.refuse-2.result c.if-number-lt8.count g.0 g.1 good c.refuse-2.ensures
-    (λ m. elim c.if-number-lt8.branch [ then-number-lt8 w ↦ w.count-is ∙ n | else-number-lt8 w ↦ omega (arith, w.count-is, w.if-number-lt8.false, n, m) ])
+    let own = c.in-Ok.own in
+    let g = placed_ok a.axle own c.in-Ok.ensures.value in
+    let l : length a.self.queues ≡ 6 = search (length_mapped, rules) in
+    let h = held_read a.self a.axle own l g.six (sym g.is) in
+    counts_done a.self a.axle c.refuse.result c.min-count.result own g c.refuse.ensures (λ m. omega (arith, c.min-count.ensures, h, m))

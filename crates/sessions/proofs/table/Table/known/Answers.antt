@@ -1,28 +1,29 @@
--- The flag and the suite in the place found.
+-- What is weighed of the session found.
 -- Assumes nothing.
-use mathlib.Core.Path.{sym, ◌∙◌}
-use Rattle.sessions.proofs.Kept.{knows_11, knows_none, knows_found}
-use Rattle.sessions.proofs.Sound.{good_name}
+use Rattle.std.proofs.Common.{sym, ◌∙◌, ap, rules, ◌≡◌, length}
+use Rattle.seqs.specs.Array.{length_mapped}
+use Rattle.sessions.specs.Book.{sought}
+use Rattle.sessions.proofs.Kept.{named_ok, named_err, knows_name, knows_none, knows_found}
+use Rattle.sessions.proofs.Queues.{sessions_read}
 use Rattle.sessions.proofs.table.Table.known.Goals as goal
 
-pub returns-then-bad_name : goal.returns-then-bad_name
-returns-then-bad_name c = let a = c.args in knows_11 a.self a.axle a.identifier.now (sym c.bad_name.ensures ∙ c.if-bad_name.true)
-
-pub named-row-requires : goal.named-row-requires
-named-row-requires c =
+pub returns-in_default : goal.returns-in_default
+returns-in_default c =
     let a = c.args in
-    let good = sym c.bad_name.ensures ∙ c.if-bad_name.false in
-    let g = good_name a.axle a.identifier.now good in (g.0, g.1, g.2)
+    knows_name a.self.now a.axle a.identifier.now (named_err a.axle a.identifier.now c.in_default.field-0 c.in_default.ensures.value).1
 
-pub returns-then-row-eq0 : goal.returns-then-row-eq0
-returns-then-row-eq0 c =
+pub returns-in_err-row : goal.returns-in_err-row
+returns-in_err-row c =
     let a = c.args in
-    let good = sym c.bad_name.ensures ∙ c.if-bad_name.false in
-    knows_none a.self a.axle a.identifier.now good c.named-row.result c.named-row.ensures c.if-row-eq0.true
+    let g = named_ok a.axle a.identifier.now c.in-Ok.own c.in-Ok.ensures.value in
+    let l : length a.self.now.queues ≡ 6 = search (length_mapped, rules) in
+    let q = ap (sought a.axle a.identifier.now) (sessions_read a.self.now a.axle c.in-Ok.own l g.six (sym g.is)) in
+    rw c.from_residual.ensures (knows_none a.self.now a.axle a.identifier.now g.good (c.in_err-row.ensures a.axle ∙ q))
 
 pub returns : goal.returns
 returns c =
     let a = c.args in
-    let good = sym c.bad_name.ensures ∙ c.if-bad_name.false in
-    let r = c.named-row in
-    knows_found a.self a.axle a.identifier.now good r.result r.ensures c.if-row-eq0.false c.flag-ems.result c.suite_number.result c.flag-ems.ensures (c.suite_number.ensures a.axle)
+    let g = named_ok a.axle a.identifier.now c.in-Ok.own c.in-Ok.ensures.value in
+    let l : length a.self.now.queues ≡ 6 = search (length_mapped, rules) in
+    let q = ap (sought a.axle a.identifier.now) (sessions_read a.self.now a.axle c.in-Ok.own l g.six (sym g.is)) in
+    knows_found a.self.now a.axle a.identifier.now g.good c.in_ok-row.row.now c.weighed.result (c.in_ok-row.ensures a.axle ∙ q) (c.weighed.ensures a.axle)

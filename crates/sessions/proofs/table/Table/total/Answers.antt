@@ -1,20 +1,16 @@
 -- The six sizes are the book's length.
 -- Assumes nothing.
-use mathlib.Core.Path.{◌∙◌, ap}
-use native.Mathlib.Omega.{arith}
-use lib.ListN.{length}
-use Rattle.sessions.proofs.Parts.{part_six}
-use Rattle.sessions.proofs.Queues.{no_queue, sessions_at}
+use Rattle.std.proofs.Common.{◌≡◌, ◌∙◌, ap, arith, rules, length, take, take_all}
+use Rattle.std.specs.List.{sum_by}
+use Rattle.seqs.specs.Array.{length_mapped}
+use Rattle.sessions.specs.declared.queue.Queue.{Queue}
+use Rattle.sessions.proofs.Queues.{total_is}
 use Rattle.sessions.proofs.table.Table.total.Goals as goal
 
 pub returns : goal.returns
 returns c =
     λ b e g.
-    let t = c.args.self in
-    let s1 = c.size.ensures.0 1 ∙ ap length (sessions_at t b e 0 no_queue (omega arith)) in
-    let s2 = c.size-2.ensures.0 2 ∙ ap length (sessions_at t b e 1 no_queue (omega arith)) in
-    let s3 = c.size-3.ensures.0 3 ∙ ap length (sessions_at t b e 2 no_queue (omega arith)) in
-    let s4 = c.size-4.ensures.0 4 ∙ ap length (sessions_at t b e 3 no_queue (omega arith)) in
-    let s5 = c.size-5.ensures.0 5 ∙ ap length (sessions_at t b e 4 no_queue (omega arith)) in
-    let s6 = c.size-6.ensures.0 6 ∙ ap length (sessions_at t b e 5 no_queue (omega arith)) in
-    omega (arith, s1, s2, s3, s4, s5, s6, part_six b g.formed)
+    let t = c.args.self.now in
+    let l : length t.queues ≡ 6 = search (length_mapped, rules) in
+    let all = take_all c.loop-queue.queue-index t.queues (omega arith) in
+    c.loop-queue.invariant.1 ∙ ap (sum_by (λ (q : Queue). length (take q.held q.rows))) all ∙ total_is t b e g.formed
