@@ -7,13 +7,10 @@ fn main(rt: HostRuntime) {
     // A case of more than 32,768 bytes is bad, however it goes on: no more is read of either file.
     let mut first = [0u8; 32769];
     let mut second = [0u8; 32769];
-    let one = stdio::read_argument(&rt, 1, &mut first);
-    let other = stdio::read_argument(&rt, 2, &mut second);
-    let n = one.length;
-    let m = other.length;
+    let n = stdio::read_argument(&rt, 1, &mut first).unwrap_or(0);
+    let m = stdio::read_argument(&rt, 2, &mut second).unwrap_or(0);
     let mut text = [0u8; 358280];
-    let compared = comparing::compare(&first[..n], &second[..m], &mut text);
-    let length = compared.length;
+    let length = comparing::compare(&first[..n], &second[..m], &mut text).unwrap_or(0);
     if let Err(error) = rt.write_all(&text[..length]) {
         stdio::say(&rt, "casediff: standard output", &error);
     }

@@ -9,6 +9,7 @@ use native.Mathlib.Omega.{arith}
 use lib.Dec.{ltb}
 use lib.ListN.{length}
 use borrow.Author.Tests.{le-ltb}
+use Rattle.std.proofs.Common.{Ok}
 use Rattle.seqs.specs.Cases.{by_test, not_both}
 use Rattle.octets.specs.Same.{same}
 use Rattle.octets.specs.Equal.{same_true, same_refl}
@@ -115,6 +116,6 @@ pub call_tells : CallTells
 unfolding too_short
 call_tells a b out out' r c room p q =
     let t : ltb (length out) longest ≡ false = le-ltb (length out) longest room in
-    let n : r.length ≡ length (comparison a b) = rw t at c.size in
+    let n : r ≡ Ok (length (comparison a b)) = rw t at c.answer in
     let x = nothing_of_any a b p q in
-    (λ e. x.0 (none_long (comparison a b) (sym n ∙ e)), λ g e. n ∙ ap length (x.1 g e))
+    (λ e. let z : Ok (length (comparison a b)) ≡ Ok 0 = sym n ∙ e in x.0 (none_long (comparison a b) (cc)), λ g e. n ∙ ap (λ (s : List ℕ). Ok (length s)) (x.1 g e))

@@ -1,3 +1,4 @@
+pub mod Least
 pub mod Putting
 pub mod Texts
 pub mod Beginnings

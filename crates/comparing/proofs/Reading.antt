@@ -12,14 +12,13 @@ use Rattle.comparing.specs.Differences.{common, field_differences, read_differen
 use Rattle.comparing.specs.Comparison.{line, line_of, text}
 use Rattle.comparing.specs.Steps.{Holds, Sees, hello_at, SeenWithin, reading_at}
 use Rattle.comparing.specs.declared.fields.Fields.{Fields}
-use Rattle.comparing.specs.declared.fields.Seen.{Seen}
-use Rattle.comparing.specs.declared.fields.Seen.TheVariants as seen
+use Rattle.std.proofs.Common.{Option, Some, None}
 use Rattle.comparing.proofs.Texts.{text_append}
 
-pub seen_within : (m : List ℕ) (r : Reading) (v : Seen) → Sees m r v → SeenWithin m v
-seen_within m r (seen.Read x) = λ (f, e, h).
+pub seen_within : (m : List ℕ) (r : Reading) (v : Option Fields) → Sees m r v → SeenWithin m v
+seen_within m r (Some x) = λ (f, e, h).
     record { random = h.random.within; identifier = h.identifier.within; suites = h.suites.within; methods = h.methods.within }
-seen_within m r seen.Unread = λ h. tt
+seen_within m r None = λ h. tt
 
 both_read : (i : ℕ) (a b : List ℕ) (x y : Fields) (f g : Hello) → Holds a x f → Holds b y g
     → read_differences i (fields f) (fields g) ≡ read_differences i (fields (hello_at a x)) (fields (hello_at b y))
@@ -27,15 +26,15 @@ unfolding read_differences field_differences hello_at
 both_read i a b x y f g p q =
     rw (p.version, q.version, p.random.is, q.random.is, p.identifier.is, q.identifier.is, p.suites.is, q.suites.is, p.methods.is, q.methods.is, p.extensions, q.extensions)
 
-seen_both : (i : ℕ) (a b : List ℕ) (r s : Reading) (v w : Seen) → Sees a r v → Sees b s w
+seen_both : (i : ℕ) (a b : List ℕ) (r s : Reading) (v w : Option Fields) → Sees a r v → Sees b s w
     → read_differences i r s ≡ read_differences i (reading_at a v) (reading_at b w)
 unfolding read_differences reading_at
-seen_both i a b r s seen.Unread w = λ h k. rw h.2
-seen_both i a b r s (seen.Read x) seen.Unread = λ h k. rw (h.1, k.2)
-seen_both i a b r s (seen.Read x) (seen.Read y) = λ h k. rw (h.1, k.1) (both_read i a b x y h.0 k.0 h.2 k.2)
+seen_both i a b r s None w = λ h k. rw h.2
+seen_both i a b r s (Some x) None = λ h k. rw (h.1, k.2)
+seen_both i a b r s (Some x) (Some y) = λ h k. rw (h.1, k.1) (both_read i a b x y h.0 k.0 h.2 k.2)
 
 -- as the text, with the reading of each by its reader
-pub seen_text : (i : ℕ) (a b : List ℕ) (r s : Reading) (v w : Seen) → Sees a r v → Sees b s w
+pub seen_text : (i : ℕ) (a b : List ℕ) (r s : Reading) (v w : Option Fields) → Sees a r v → Sees b s w
     → text (read_differences i r s) ≡ text (read_differences i (reading_at a v) (reading_at b w))
 seen_text i a b r s v w h k = ap text (seen_both i a b r s v w h k)
 

@@ -12,7 +12,9 @@ use Rattle.cases.specs.Digits.{ascii, decimal}
 use Rattle.hello.specs.Fields.{Hello}
 use Rattle.comparing.specs.Differences.{first, second, field, Difference, difference, unless, field_differences, alone}
 use Rattle.comparing.specs.Comparison.{line, line_of, text}
-use Rattle.comparing.specs.Steps.{Puts, lines_from}
+use Rattle.comparing.specs.Steps.{lines_from}
+use Rattle.comparing.specs.Pages.{HasRoom, Puts}
+use Rattle.comparing.specs.declared.lines.Page.{Page}
 use Rattle.comparing.proofs.Putting.{puts_both}
 
 five_long : (p₁ p₂ p₃ p₄ p₅ : List ℕ) → length (p₁ ++ p₂ ++ p₃ ++ p₄ ++ p₅) ≡ length p₁ + length p₂ + length p₃ + length p₄ + length p₅
@@ -61,14 +63,14 @@ unfolding text
 text_one d = append-nil (line_of d)
 
 -- five parts, one behind the other
-pub puts_five : {d d₁ d₂ d₃ d₄ d₅ : List ℕ} {at r₁ r₂ r₃ r₄ r₅ : ℕ} (p₁ p₂ p₃ p₄ p₅ : List ℕ) → at + length (p₁ ++ p₂ ++ p₃ ++ p₄ ++ p₅) ≤ length d
-    → Puts d at p₁ d₁ r₁ → Puts d₁ r₁ p₂ d₂ r₂ → Puts d₂ r₂ p₃ d₃ r₃ → Puts d₃ r₃ p₄ d₄ r₄ → Puts d₄ r₄ p₅ d₅ r₅
-    → Puts d at (p₁ ++ p₂ ++ p₃ ++ p₄ ++ p₅) d₅ r₅
-puts_five p₁ p₂ p₃ p₄ p₅ h a b c e f =
-    let n = five_long p₁ p₂ p₃ p₄ p₅ in
-    let n₃ = length-append (p₁ ++ p₂ ++ p₃) p₄ in
-    let n₂ = length-append (p₁ ++ p₂) p₃ in
-    let n₁ = length-append p₁ p₂ in
+pub puts_five : {p p₁ p₂ p₃ p₄ p₅ : Page} (s₁ s₂ s₃ s₄ s₅ : List ℕ) → HasRoom p (s₁ ++ s₂ ++ s₃ ++ s₄ ++ s₅)
+    → Puts p s₁ p₁ → Puts p₁ s₂ p₂ → Puts p₂ s₃ p₃ → Puts p₃ s₄ p₄ → Puts p₄ s₅ p₅
+    → Puts p (s₁ ++ s₂ ++ s₃ ++ s₄ ++ s₅) p₅
+puts_five s₁ s₂ s₃ s₄ s₅ h a b c e f =
+    let n = five_long s₁ s₂ s₃ s₄ s₅ in
+    let n₃ = length-append (s₁ ++ s₂ ++ s₃) s₄ in
+    let n₂ = length-append (s₁ ++ s₂) s₃ in
+    let n₁ = length-append s₁ s₂ in
     puts_both (omega (arith, n, n₁, n₂, n₃)) (puts_both (omega (arith, n, n₁, n₂)) (puts_both (omega (arith, n, n₁)) (puts_both (omega (arith, n)) a b) c) e) f
 
 -- lines of a word alone: of the messages from i on, up to one

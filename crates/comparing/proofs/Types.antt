@@ -19,6 +19,8 @@ use Rattle.comparing.specs.Comparison.{text}
 use Rattle.comparing.specs.Steps.{IsLowest, matched}
 use Rattle.comparing.specs.declared.extensions.Found.{Found}
 use Rattle.comparing.proofs.Putting.{Writing, writing_room}
+use Rattle.comparing.specs.Pages.{HasRoom}
+use Rattle.comparing.specs.declared.lines.Page.{Page}
 use Rattle.comparing.proofs.Texts.{text_append}
 
 -- the data of a type in two lists, one behind the other: the first list's, or else the second's
@@ -151,8 +153,8 @@ module _ (a b : List ℕ) (es fs : List Extension) (low : ℕ) (x y : Found) (l 
   types_text i k same e h p q c =
       rw e (ap text (types_more i k h (lower_from k h c) p q c) ∙ text_append (unless (matched a x b y) (difference i (extension k))) (types_from i (65536 - (k + 1)) (k + 1) es fs))
 
-  pub types_room : {d d₁ whole : List ℕ} {at to : ℕ} (i k : ℕ) (same : Bool) → same ≡ matched a x b y → k < 65536 → k ≤ x.kind → k ≤ y.kind → (k ≡ x.kind) ⊎ (k ≡ y.kind)
-      → Writing d at whole d₁ to (text (types_from i (65536 - low) low es fs)) → to + length (text (unless same (difference i (extension k)))) ≤ length d₁
+  pub types_room : {p p₁ : Page} {whole : List ℕ} (i k : ℕ) (same : Bool) → same ≡ matched a x b y → k < 65536 → k ≤ x.kind → k ≤ y.kind → (k ≡ x.kind) ⊎ (k ≡ y.kind)
+      → Writing p whole p₁ (text (types_from i (65536 - low) low es fs)) → HasRoom p₁ (text (unless same (difference i (extension k))))
   types_room i k same e h p q c w =
       writing_room (text (unless same (difference i (extension k)))) (text (types_from i (65536 - (k + 1)) (k + 1) es fs)) w (types_text i k same e h p q c)
 

@@ -1,14 +1,14 @@
 -- Document 02, order 8: 'Two cases give an empty list exactly when their bytes are equal.' Proved in proofs/Exact.antt, each statement
 -- under the name that stands above it.
 -- Assumes nothing.
-use Rattle.std.specs.Prelude.{◌≡◌, true, false, List, [], ◌⊎◌, ℕ, ◌≤◌, length}
+use Rattle.std.specs.Prelude.{◌≡◌, true, false, List, [], ◌⊎◌, ℕ, ◌≤◌, length, Result, Ok}
 use Rattle.seqs.specs.Bytes.{Bytes}
 use Rattle.cases.specs.Contents.{good_case}
 use Rattle.comparing.specs.Differences.{differences}
 use Rattle.comparing.specs.Comparison.{comparison}
 use Rattle.comparing.specs.Longest.{longest}
 use Rattle.comparing.specs.Promise.{Compares}
-use Rattle.comparing.specs.declared.whole.Compared.{Compared}
+use Rattle.refusal.specs.declared.reason.Reason.{Reason}
 
 -- 'Two cases give an empty list exactly when their bytes are equal.' (`empty_exactly_when_equal`)
 abbrev pub EmptyExactlyWhenEqual : Type 0
@@ -36,5 +36,5 @@ NothingOfAny =
 -- The same of what the call ensures, given room for the longest text: the length that it answers is 0 just then. (`call_tells`)
 abbrev pub CallTells : Type 0
 CallTells =
-    (a b out out' : List ℕ) (r : Compared) → Compares a b out out' r → longest ≤ length out → Bytes a → Bytes b
-    → (r.length ≡ 0 → (good_case a ≡ true) × (a ≡ b)) × (good_case a ≡ true → a ≡ b → r.length ≡ 0)
+    (a b out out' : List ℕ) (r : Result ℕ Reason) → Compares a b out out' r → longest ≤ length out → Bytes a → Bytes b
+    → (r ≡ Ok 0 → (good_case a ≡ true) × (a ≡ b)) × (good_case a ≡ true → a ≡ b → r ≡ Ok 0)

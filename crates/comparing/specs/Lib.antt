@@ -4,3 +4,4 @@ pub mod Longest
 pub mod Promise
 pub mod Exact
 pub mod Steps
+pub mod Pages

@@ -1,9 +1,8 @@
--- What the helpers of a comparison answer: lines at a place of the lent output; a hello that was read, by places of its message.
+-- What the helpers of a comparison answer: lines of a word alone; a hello that was read, by places of its message.
 -- Assumes nothing.
-use Rattle.std.specs.Prelude.{◌≡◌, Bool, false, List, [], ◌∷◌, ◌++◌, ℕ, zero, suc, ◌+◌, ◌≤◌, ◌<◌, eqb, length}
+use Rattle.std.specs.Prelude.{◌≡◌, Bool, false, List, [], ◌∷◌, ◌++◌, ℕ, zero, suc, ◌+◌, ◌≤◌, ◌<◌, eqb, length, Option, Some, None}
 use Rattle.std.proofs.Math.Option.{none, some}
 use Rattle.seqs.specs.Pick.{pick}
-use Rattle.octets.specs.Placed.{placed}
 use Rattle.octets.specs.Same.{same}
 use Rattle.hello.specs.Extensions.{Extension, content_of}
 use Rattle.hello.specs.Fields.{Hello, Reading, fields, fault}
@@ -11,14 +10,7 @@ use Rattle.hello.specs.Places.{behind, bytes_at, Points}
 use Rattle.hello.specs.Next.{next_at}
 use Rattle.comparing.specs.Comparison.{line}
 use Rattle.comparing.specs.declared.fields.Fields.{Fields}
-use Rattle.comparing.specs.declared.fields.Seen.{Seen}
-use Rattle.comparing.specs.declared.fields.Seen.TheVariants as seen
 use Rattle.comparing.specs.declared.extensions.Found.{Found}
-
--- s written from place at of d on, and the place behind it
-pub record Puts (d : List ℕ) (at : ℕ) (s d' : List ℕ) (r : ℕ) : Type 0 where
-  pub place : r ≡ at + length s
-  pub out : d' ≡ placed d at s
 
 -- n lines of a word alone, from message i on
 unfoldable pub lines_from : List ℕ → ℕ → ℕ → List ℕ
@@ -46,9 +38,9 @@ pub record Holds (m : List ℕ) (x : Fields) (f : Hello) : Type 0 where
   pub extensions : handed m x.list ≡ f.extensions
 
 -- the answer of a reader, as far as it is compared
-abbrev pub Sees : List ℕ → Reading → Seen → Type 0
-Sees m r (seen.Read x) = (f : Hello) × (r ≡ fields f) × Holds m x f
-Sees m r seen.Unread = (n : ℕ) × (p : ℕ) × (r ≡ fault n p)
+abbrev pub Sees : List ℕ → Reading → Option Fields → Type 0
+Sees m r (Some x) = (f : Hello) × (r ≡ fields f) × Holds m x f
+Sees m r None = (n : ℕ) × (p : ℕ) × (r ≡ fault n p)
 
 -- every field lies within the message
 pub record Within (m : List ℕ) (x : Fields) : Type 0 where
@@ -71,13 +63,13 @@ hello_at m x =
     }
 
 -- what was seen of a message, within it, and as a reading; which fault there is is not compared
-abbrev pub SeenWithin : List ℕ → Seen → Type 0
-SeenWithin m (seen.Read x) = Within m x
-SeenWithin m seen.Unread = Unit {0}
+abbrev pub SeenWithin : List ℕ → Option Fields → Type 0
+SeenWithin m (Some x) = Within m x
+SeenWithin m None = Unit {0}
 
-unfoldable pub reading_at : List ℕ → Seen → Reading
-reading_at m (seen.Read x) = fields (hello_at m x)
-reading_at m seen.Unread = fault 0 0
+unfoldable pub reading_at : List ℕ → Option Fields → Reading
+reading_at m (Some x) = fields (hello_at m x)
+reading_at m None = fault 0 0
 
 -- the extension of the least type from low on among es, with its data; of type 65,536, which is none, where there is none
 pub record IsLowest (m : List ℕ) (es : List Extension) (low : ℕ) (r : Found) : Type 0 where

@@ -4,12 +4,13 @@ ghost use Rattle.hello.specs.Extensions.{Extension};
 ghost use Rattle.hello.specs.Places.{behind, bytes_at};
 ghost use Rattle.comparing.specs.Differences.{How, difference, unless, extension_differences};
 ghost use Rattle.comparing.specs.Comparison.{text};
-ghost use Rattle.comparing.specs.Steps.{Puts, handed, IsLowest, matched};
+ghost use Rattle.comparing.specs.Steps.{handed, IsLowest, matched};
+ghost use Rattle.comparing.specs.Pages.{HasRoom, Puts};
 
 use crate::fields::same_part;
-use crate::lines::put_numbered;
-use crate::numbers::lesser;
+use crate::lines::Page;
 use hello::{Next, Part, next_extension};
+use std::cmp::min;
 
 // How many types there are; as a type it is none.
 const TYPES: usize = 65536;
@@ -66,40 +67,36 @@ fn match_data(a: &[u8], x: Found, b: &[u8], y: Found) -> bool
 }
 
 // A line, but where the two are the same.
-fn put_extension(out: &mut [u8], at: usize, number: u8, kind: u16, same: bool) -> usize
-    requires { at + length (text (unless same (difference number (How.extension kind)))) ≤ length out.old }
-    ensures { Puts out.old at (text (unless same (difference number (How.extension kind)))) out.new result }
+fn put_extension(page: &mut Page<'_>, number: u8, kind: u16, same: bool)
+    requires { HasRoom page.old (text (unless same (difference number (How.extension kind)))) }
+    ensures { Puts page.old (text (unless same (difference number (How.extension kind)))) page.new }
 {
-    if same {
-        return at;
+    if !same {
+        page.put_numbered(number, b"extension ", kind);
     }
-    put_numbered(out, at, number, b"extension ", kind)
 }
 
 // From one type that stands in either list to the next. The lists begin at places i and j.
 pub(crate) fn put_extensions(
-    out: &mut [u8],
-    at: usize,
+    page: &mut Page<'_>,
     number: u8,
     a: &[u8],
     i: usize,
     b: &[u8],
     j: usize,
-) -> usize
-    requires { at + length (text (extension_differences number (handed a.now i) (handed b.now j))) ≤ length out.old }
-    ensures { Puts out.old at (text (extension_differences number (handed a.now i) (handed b.now j))) out.new result }
+)
+    requires { HasRoom page.old (text (extension_differences number (handed a.now i) (handed b.now j))) }
+    ensures { Puts page.old (text (extension_differences number (handed a.now i) (handed b.now j))) page.new }
 {
-    let mut to = at;
     let mut low: usize = 0;
     while low < TYPES {
         let x = lowest(a, i, low);
         let y = lowest(b, j, low);
-        let kind = lesser(x.kind, y.kind);
+        let kind = min(x.kind, y.kind);
         if kind == TYPES {
-            return to;
+            return;
         }
-        to = put_extension(out, to, number, kind as u16, match_data(a, x, b, y));
+        put_extension(page, number, kind as u16, match_data(a, x, b, y));
         low = kind + 1;
     }
-    to
 }

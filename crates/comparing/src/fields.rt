@@ -5,9 +5,10 @@ ghost use Rattle.hello.specs.Fields.{read_client, read_server};
 ghost use Rattle.hello.specs.Places.{behind, bytes_at};
 ghost use Rattle.comparing.specs.Differences.{How, difference, unless, field_differences};
 ghost use Rattle.comparing.specs.Comparison.{text};
-ghost use Rattle.comparing.specs.Steps.{Puts, Sees, Within, hello_at};
+ghost use Rattle.comparing.specs.Steps.{Sees, Within, hello_at};
+ghost use Rattle.comparing.specs.Pages.{HasRoom, Puts};
 
-use crate::lines::put_line;
+use crate::lines::Page;
 use hello::{ClientRead, Part, ServerRead, read_client_hello, read_server_hello};
 
 // A hello that was read, client's or server's: where its fields stand in the message.
@@ -22,18 +23,12 @@ pub(crate) struct Fields {
     pub list: usize,
 }
 
-#[derive(Clone, Copy)]
-pub(crate) enum Seen {
-    Read(Fields),
-    Unread,
-}
-
-pub(crate) fn as_client(message: &[u8]) -> Seen
+pub(crate) fn as_client(message: &[u8]) -> Option<Fields>
     ensures { Sees message.now (read_client message.now) result }
 {
     let read = read_client_hello(message);
     let ClientRead::Read(hello) = read else {
-        return Seen::Unread;
+        return None;
     };
     let random = hello.random;
     let identifier = hello.identifier;
@@ -41,7 +36,7 @@ pub(crate) fn as_client(message: &[u8]) -> Seen
     let methods = hello.methods;
     let extensions = hello.extensions;
     let list = extensions.list;
-    Seen::Read(Fields {
+    Some(Fields {
         version: hello.version,
         random,
         identifier,
@@ -52,19 +47,19 @@ pub(crate) fn as_client(message: &[u8]) -> Seen
 }
 
 // Its one suite stands behind the identifier, and its one method behind the suite.
-pub(crate) fn as_server(message: &[u8]) -> Seen
+pub(crate) fn as_server(message: &[u8]) -> Option<Fields>
     ensures { Sees message.now (read_server message.now) result }
 {
     let read = read_server_hello(message);
     let ServerRead::Read(hello) = read else {
-        return Seen::Unread;
+        return None;
     };
     let random = hello.random;
     let identifier = hello.identifier;
     let suite = identifier.at + identifier.length;
     let extensions = hello.extensions;
     let list = extensions.list;
-    Seen::Read(Fields {
+    Some(Fields {
         version: hello.version,
         random,
         identifier,
@@ -93,56 +88,27 @@ pub(crate) fn same_part(a: &[u8], p: Part, b: &[u8], q: Part) -> bool
 }
 
 // A line, but where the two are the same.
-fn put_field(out: &mut [u8], at: usize, number: u8, name: &[u8], same: bool) -> usize
-    requires { at + length (text (unless same (difference number (How.field name.now)))) ≤ length out.old }
-    ensures { Puts out.old at (text (unless same (difference number (How.field name.now)))) out.new result }
+fn put_field(page: &mut Page<'_>, number: u8, name: &[u8], same: bool)
+    requires { HasRoom page.old (text (unless same (difference number (How.field name.now)))) }
+    ensures { Puts page.old (text (unless same (difference number (How.field name.now)))) page.new }
 {
-    if same {
-        return at;
+    if !same {
+        page.put_line(number, b"field ", name);
     }
-    put_line(out, at, number, b"field ", name)
 }
 
-pub(crate) fn put_fields(
-    out: &mut [u8],
-    at: usize,
-    number: u8,
-    a: &[u8],
-    x: Fields,
-    b: &[u8],
-    y: Fields,
-) -> usize
+pub(crate) fn put_fields(page: &mut Page<'_>, number: u8, a: &[u8], x: Fields, b: &[u8], y: Fields)
     requires within { Within a.now x × Within b.now y }
-    requires room { at + length (text (field_differences number (hello_at a.now x) (hello_at b.now y))) ≤ length out.old }
-    ensures { Puts out.old at (text (field_differences number (hello_at a.now x) (hello_at b.now y))) out.new result }
+    requires room { HasRoom page.old (text (field_differences number (hello_at a.now x) (hello_at b.now y))) }
+    ensures { Puts page.old (text (field_differences number (hello_at a.now x) (hello_at b.now y))) page.new }
 {
-    let at = put_field(out, at, number, b"version", x.version == y.version);
-    let at = put_field(
-        out,
-        at,
-        number,
-        b"random",
-        same_part(a, x.random, b, y.random),
-    );
-    let at = put_field(
-        out,
-        at,
-        number,
-        b"identifier",
-        same_part(a, x.identifier, b, y.identifier),
-    );
-    let at = put_field(
-        out,
-        at,
-        number,
-        b"suites",
-        same_part(a, x.suites, b, y.suites),
-    );
-    put_field(
-        out,
-        at,
-        number,
-        b"methods",
-        same_part(a, x.methods, b, y.methods),
-    )
+    let random = same_part(a, x.random, b, y.random);
+    let identifier = same_part(a, x.identifier, b, y.identifier);
+    let suites = same_part(a, x.suites, b, y.suites);
+    let methods = same_part(a, x.methods, b, y.methods);
+    put_field(page, number, b"version", x.version == y.version);
+    put_field(page, number, b"random", random);
+    put_field(page, number, b"identifier", identifier);
+    put_field(page, number, b"suites", suites);
+    put_field(page, number, b"methods", methods);
 }

@@ -5,7 +5,6 @@ mod extensions;
 mod fields;
 mod lines;
 mod messages;
-mod numbers;
 mod whole;
 
-pub use whole::{Compared, compare};
+pub use whole::compare;

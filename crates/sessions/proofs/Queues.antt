@@ -37,19 +37,6 @@ module _ {A : Type 0} where
   pub six_same : (f g : ℕ → A) → ((c : ℕ) → f c ≡ g c) → six f ≡ six g
   six_same f g e = rw (e 1, e 2, e 3, e 4, e 5, e 6)
 
-  pub six_read : (f : ℕ → A) (l : List A) (n : ℕ) (d : A) → l ≡ six f → n < 6 → get_or l n d ≡ f (suc n)
-  six_read f l n d e h = rw e (six_at f n d h)
-
--- an axle that is none of the first five
-pub sixth : (a : ℕ) → 1 ≤ a → a ≤ 6 → (a ≡ 1 → ⊥) → (a ≡ 2 → ⊥) → (a ≡ 3 → ⊥) → (a ≡ 4 → ⊥) → (a ≡ 5 → ⊥) → a ≡ 6
-sixth zero h k n1 n2 n3 n4 n5 = absurd (omega arith)
-sixth (suc zero) h k n1 n2 n3 n4 n5 = absurd (n1 refl)
-sixth (suc (suc zero)) h k n1 n2 n3 n4 n5 = absurd (n2 refl)
-sixth (suc (suc (suc zero))) h k n1 n2 n3 n4 n5 = absurd (n3 refl)
-sixth (suc (suc (suc (suc zero)))) h k n1 n2 n3 n4 n5 = absurd (n4 refl)
-sixth (suc (suc (suc (suc (suc zero))))) h k n1 n2 n3 n4 n5 = absurd (n5 refl)
-sixth (suc (suc (suc (suc (suc (suc n)))))) h k n1 n2 n3 n4 n5 = omega arith
-
 -- what stands past the end of an array of queues
 abbrev pub no_queue : Queue
 no_queue = record { rows = []; held = 0 }
@@ -114,7 +101,3 @@ module _ (t : Table) (b : Book) (e : t ≡ table_of b) where
     pub queue_held : held_in t a ≡ holds a b
     unfolding held_in laid
     queue_held = ap (λ (q : Queue). q.held) queue_is ∙ part_length a b
-
-  pub numbers_are : six (held_in t) ≡ six (λ a. holds a b)
-  numbers_are =
-      rw (queue_held 1 (omega arith) (omega arith), queue_held 2 (omega arith) (omega arith), queue_held 3 (omega arith) (omega arith), queue_held 4 (omega arith) (omega arith), queue_held 5 (omega arith) (omega arith), queue_held 6 (omega arith) (omega arith))

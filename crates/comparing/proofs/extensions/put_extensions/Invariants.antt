@@ -1,6 +1,6 @@
--- From type to type: what is written, with the lines of the types that are left behind it, is the whole.
+-- What is put, with the lines of the types still to come behind it, is the whole.
 -- Assumes nothing.
-use Prim.Native.Nat.{◌-◌, ◌≤◌}
+use Rattle.std.proofs.Common.{◌-◌, ◌≤◌}
 use Rattle.comparing.specs.Differences.{types_from, extension_differences}
 use Rattle.comparing.specs.Comparison.{text}
 use Rattle.comparing.specs.Steps.{handed}
@@ -8,9 +8,10 @@ use Rattle.comparing.proofs.Putting.{Writing}
 use Rattle.comparing.proofs.extensions.put_extensions.Given as goal
 
 abbrev pub invariant-loop-low : goal.invariant-loop-low
-invariant-loop-low l =
-    (l.low ≤ 65536)
-    × Writing l.initial.out l.at (text (extension_differences l.number (handed l.a l.i) (handed l.b l.j))) l.out l.to (text (types_from l.number (65536 - l.low) l.low (handed l.a l.i) (handed l.b l.j)))
+invariant-loop-low l = record {
+  most : l.low ≤ 65536;
+  writing : Writing l.initial.page (text (extension_differences l.number (handed l.a l.i) (handed l.b l.j))) l.page (text (types_from l.number (65536 - l.low) l.low (handed l.a l.i) (handed l.b l.j)));
+}
 
 abbrev pub decreases-loop-low : goal.decreases-loop-low
 decreases-loop-low l = 65536 - l.low

@@ -1,4 +1,4 @@
--- Nothing, or one line.
+-- Nothing where the two are the same, else a line.
 -- Assumes nothing.
 use Rattle.cases.specs.Digits.{ascii}
 use Rattle.comparing.specs.Differences.{unless}
@@ -7,16 +7,16 @@ use Rattle.comparing.proofs.Putting.{puts_none}
 use Rattle.comparing.proofs.Texts.{text_one}
 use Rattle.comparing.proofs.fields.put_field.Goals as goal
 
-pub returns-then-same : goal.returns-then-same
-unfolding unless text
-returns-then-same c = rw c.if-same.true (puts_none _ _)
-
 pub put_line-requires : goal.put_line-requires
 unfolding unless line_of ascii
 put_line-requires c =
-    rw (c.if-same.false, text_one) at c.requires
+    rw (c.if-not-same.true, text_one) at c.requires
 
-pub returns : goal.returns
+pub returns-then-not-same : goal.returns-then-not-same
 unfolding unless line_of ascii
-returns c =
-    rw (c.if-same.false, text_one) c.put_line.ensures
+returns-then-not-same c =
+    rw (c.if-not-same.true, text_one) c.put_line.ensures
+
+pub returns-else-not-same : goal.returns-else-not-same
+unfolding unless text
+returns-else-not-same c = rw c.if-not-same.false (puts_none _)

@@ -1,11 +1,9 @@
--- The first case, the second, and then the messages of both.
+-- The judgement of the first case first.
 -- Assumes nothing.
-use mathlib.Core.Path.{sym, ◌∙◌, ap}
-use lib.ListN.{length}
+use Rattle.std.proofs.Common.{sym, ◌∙◌, ap, length, arith}
 use Rattle.cases.specs.Digits.{ascii}
 use Rattle.comparing.specs.Comparison.{first_refused, second_refused}
 use Rattle.comparing.proofs.Judging.{first_bad, second_bad, both_good}
-use native.Mathlib.Omega.{arith}
 use Rattle.comparing.proofs.whole.put_comparison.Goals as goal
 
 pub put-requires : goal.put-requires
@@ -38,7 +36,7 @@ pub put_messages-requires : goal.put_messages-requires
 put_messages-requires c =
     let e = sym c.is_good.ensures ∙ c.if-not-is_good.false in
     let f = sym c.is_good-2.ensures ∙ c.if-not-is_good-2.false in
-    (e, f, rw (both_good c.args.first.now c.args.second.now e f) at c.requires)
+    record { first = e; second = f; room = rw (both_good c.args.first.now c.args.second.now e f) at c.requires }
 
 pub returns : goal.returns
 returns c =
