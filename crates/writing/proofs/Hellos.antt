@@ -62,7 +62,6 @@ module _ (v : ℕ) (r i s m : List ℕ) (block : Bool) (ts ns d : List ℕ) wher
         list = refl;
         fields = regroup (opens_outside (length r) (length i)) (ltb (length s) 2) (ltb 65534 (length s)) (not (eqb (length s % 2) 0)) (ltb (length m) 1) (ltb 255 (length m));
         long = λ fits p. omega (arith, client_long hello, closing_long block ts ns d fits, (opens_bound (length r) (length i) (or_left _ (lists_outside (length s) (length m)) p)).0);
-        some = λ z. omega arith;
       }
 
 module _ (v : ℕ) (r i : List ℕ) (suite compression : ℕ) (block : Bool) (ts ns d : List ℕ) where
@@ -76,7 +75,6 @@ module _ (v : ℕ) (r i : List ℕ) (suite compression : ℕ) (block : Bool) (ts
         list = refl;
         fields = nothing_more (opens_outside (length r) (length i));
         long = λ fits p. omega (arith, server_long reply, closing_long block ts ns d fits, (opens_bound (length r) (length i) p).0);
-        some = λ z. omega arith;
       }
 
 -- the bounds that the code needs where it writes

@@ -1,7 +1,6 @@
 pub mod Walking
 pub mod Listed
 pub mod Sizing
-pub mod Numbers
 pub mod Lending
 pub mod Writers
 pub mod Hellos

@@ -8,7 +8,10 @@ use native.Mathlib.Nat.{add-zero}
 use native.Mathlib.Omega.{arith}
 use lib.Dec.{leb, ltb, eqb}
 use borrow.Author.Tests.{lt-ltb, le-ltb, eq-eqb, ne_eqb, leb-true, leb-false, ltb-false, eqb-true, not-false}
+use Rattle.std.specs.Prelude.{Result, Ok, Err}
 use Rattle.seqs.specs.Cases.{by_test, or_left, or_right}
+use Rattle.refusal.specs.declared.reason.Reason.{Reason}
+use Rattle.refusal.specs.declared.reason.Reason.TheVariants as reason
 use Rattle.writing.specs.Steps.{block_size, size_or, list_outside, opens_outside, lists_outside}
 
 -- tests one after the other of which none holds
@@ -72,10 +75,11 @@ module _ (s m : ℕ) where
       let n = none_of (ltb s 2) (ltb 65534 s ∷ not (eqb (s % 2) 0) ∷ ltb m 1 ∷ ltb 255 m ∷ []) h in
       (ltb-false 65534 s n.1.0, ltb-false 255 m n.1.1.1.1.0)
 
-pub within_not : (n : ℕ) → 16388 < n → 0 ≡ size_or (ltb 16388 n) n
+-- a size, and none
+pub within_not : (n : ℕ) → 16388 < n → Err reason.Length ≡ size_or (ltb 16388 n) n
 within_not n h = rw (lt-ltb 16388 n h)
 
-pub within_yes : (n : ℕ) → n ≤ 16388 → n ≡ size_or (ltb 16388 n) n
+pub within_yes : (n : ℕ) → n ≤ 16388 → Ok n ≡ size_or (ltb 16388 n) n
 within_yes n h = rw (le-ltb 16388 n h)
 
 -- the sum as the code makes it
@@ -84,43 +88,27 @@ sum_right front n bytes = omega arith
 
 -- front bytes before the block, which has n extensions with so many bytes of data
 module _ (front n bytes : ℕ) (block : Bool) where
-  abbrev size : Bool → ℕ
-  size fits = size_or (list_outside front fits block n bytes) (front + block_size block n bytes)
+  abbrev size : Result ℕ Reason
+  size = size_or (list_outside front block n bytes) (front + block_size block n bytes)
 
-  pub size_unfit : (fits : Bool) → fits ≡ false → 0 ≡ size fits
+  pub size_unblocked : block ≡ false → (n ≡ 0 → ⊥) → Err reason.Length ≡ size
   unfolding list_outside
-  size_unfit fits e = rw e
+  size_unblocked b h = rw (b, ne_eqb n 0 h)
 
-  module _ (fits : Bool) (e : fits ≡ true) where
-    pub size_unblocked : block ≡ false → (n ≡ 0 → ⊥) → 0 ≡ size fits
-    unfolding list_outside
-    size_unblocked b h = rw (e, b, ne_eqb n 0 h)
+  pub size_bare : {r : Result ℕ Reason} → block ≡ false → n ≡ 0 → r ≡ size_or (ltb 16388 front) front → r ≡ size
+  unfolding list_outside
+  size_bare b h d = rw (b, eq-eqb n 0 h, add-zero) d
 
-    pub size_bare : {r : ℕ} → block ≡ false → n ≡ 0 → r ≡ size_or (ltb 16388 front) front → r ≡ size fits
-    unfolding list_outside
-    size_bare b h d = rw (e, b, eq-eqb n 0 h, add-zero) d
+  pub size_block : {r : Result ℕ Reason} → block ≡ true → r ≡ size_or (ltb 16388 (front + (2 + 4 * n + bytes))) (front + (2 + 4 * n + bytes)) → r ≡ size
+  unfolding list_outside
+  size_block b d = rw b d
 
-    pub size_block : {r : ℕ} → block ≡ true → r ≡ size_or (ltb 16388 (front + (2 + 4 * n + bytes))) (front + (2 + 4 * n + bytes)) → r ≡ size fits
-    unfolding list_outside
-    size_block b d = rw (e, b) d
-
-    pub size_long : block ≡ true → 16388 < front + (2 + 4 * n + bytes) → 0 ≡ size fits
-    size_long b h = size_block b (within_not (front + (2 + 4 * n + bytes)) h)
+  pub size_long : block ≡ true → 16388 < front + (2 + 4 * n + bytes) → Err reason.Length ≡ size
+  size_long b h = size_block b (within_not (front + (2 + 4 * n + bytes)) h)
 
 -- tests one after the other: the first that holds decides
-module _ (a b : Bool) (n : ℕ) where
-  pub first_of_two : a ≡ true → 0 ≡ size_or (a || b) n
-  first_of_two p = rw p
+pub first_size : (a b : Bool) (n : ℕ) → a ≡ true → Err reason.Length ≡ size_or (a || b) n
+first_size a b n p = rw p
 
-  pub second_size : {r : ℕ} → a ≡ false → r ≡ size_or b n → r ≡ size_or (a || b) n
-  second_size p e = rw p e
-
-module _ (a b c : Bool) (n : ℕ) where
-  pub first_of_three : a ≡ true → 0 ≡ size_or (a || b || c) n
-  first_of_three p = rw p
-
-  pub second_outside : a ≡ false → b ≡ true → 0 ≡ size_or (a || b || c) n
-  second_outside p q = rw (p, q)
-
-  pub third_size : {r : ℕ} → a ≡ false → b ≡ false → r ≡ size_or c n → r ≡ size_or (a || b || c) n
-  third_size p q e = rw (p, q) e
+pub second_size : (a b : Bool) (n : ℕ) {r : Result ℕ Reason} → a ≡ false → r ≡ size_or b n → r ≡ size_or (a || b) n
+second_size a b n p e = rw p e

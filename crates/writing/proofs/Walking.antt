@@ -1,18 +1,19 @@
 -- Walks over the lent types, lengths and data of a list of extensions.
 -- Assumes nothing.
-use mathlib.Core.Path.{◌≡◌, refl, sym, ◌∙◌}
-use mathlib.Core.Bool.{true, false}
+use mathlib.Core.Path.{◌≡◌, refl, sym, ◌∙◌, ap}
+use mathlib.Core.Bool.{Bool, true, false, not, ◌||◌}
+use Rattle.std.specs.List.{list_any}
 use mathlib.Core.List.{List, [], ◌∷◌}
 use Prim.Native.Nat.{ℕ, suc, ◌+◌, ◌≤◌, ◌<◌}
 use native.Mathlib.Numerals.{add-one}
 use native.Mathlib.Omega.{arith}
 use lib.Dec.{eqb}
 use lib.ListN.{length, take, drop, get_or, length-drop, drop_of_length-le}
-use lib.Seq.{drop-cons, drop-drop, length-take-le}
+use lib.Seq.{drop-cons}
 use borrow.Author.Tests.{eq-eqb, ne_eqb, eqb-true, eqb-false}
 use Rattle.seqs.specs.Cases.{by_test, and_left, and_right}
 use Rattle.hello.specs.Extensions.{Extension, shaped}
-use Rattle.writing.specs.Lists.{total, fitting, extensions_from, misshapen}
+use Rattle.writing.specs.Lists.{total, fitting, extension_of, extensions_from, misshapen}
 use Rattle.writing.specs.Steps.{among, repeats}
 
 -- a test of two numbers is the test of two others where each holds with the other
@@ -54,58 +55,54 @@ module _ (ts ns d : List ℕ) where
   unfolding fitting
   fitting_sums e = eqb-true _ _ (and_right (eqb (length ts) (length ns)) _ e)
 
--- extension i, and those behind it
-module _ (ts ns d : List ℕ) (i from : ℕ) where
-  pub from_step : i < length ts → i < length ns → (n : ℕ) → n ≡ get_or ns i 0
-      → extensions_from (drop i ts) (drop i ns) (drop from d)
-      ≡ record { kind = get_or ts i 0; content = take n (drop from d) } ∷ extensions_from (drop (i + 1) ts) (drop (i + 1) ns) (drop (from + n) d)
-  unfolding extensions_from
-  from_step h k n e = rw (drop-cons ts i 0, drop-cons ns i 0, add-one, drop-drop, e)
+  pub fitting_made : length ts ≡ length ns → total ns ≡ length d → fitting ts ns d ≡ true
+  unfolding fitting
+  fitting_made h k = rw (eq-eqb (length ts) (length ns) h, eq-eqb (total ns) (length d) k)
 
-  pub from_end : length ts ≤ i → extensions_from (drop i ts) (drop i ns) (drop from d) ≡ []
-  unfolding extensions_from
-  from_end h = rw (drop_of_length-le ts)
+-- the first extension, and those behind it
+pub record First (ts ns d : List ℕ) (t n : ℕ) (ts' ns' : List ℕ) : Type 0 where
+  pub room : n ≤ length d
+  pub fits : fitting ts' ns' (drop n d) ≡ true
+  pub list : extensions_from ts ns d ≡ extension_of t (take n d) ∷ extensions_from ts' ns' (drop n d)
 
-module _ (e : Extension) (es : List Extension) where
-  pub misshapen_here : shaped e.kind e.content ≡ false → misshapen (e ∷ es) ≡ true
-  unfolding misshapen
-  misshapen_here h = rw h
+pub first_of_list : (ts ns d : List ℕ) (t n : ℕ) (ts' ns' : List ℕ) → ts ≡ t ∷ ts' → ns ≡ n ∷ ns' → fitting ts ns d ≡ true → First ts ns d t n ts' ns'
+unfolding extensions_from total
+first_of_list ts ns d t n ts' ns' e f h =
+    let c : suc (length ts') ≡ suc (length ns') = sym (ap length e) ∙ fitting_counts ts ns d h ∙ ap length f in
+    let s : n + total ns' ≡ length d = sym (ap total f) ∙ fitting_sums ts ns d h in
+    record {
+      room = omega (arith, s);
+      fits = fitting_made ts' ns' (drop n d) (omega (arith, c)) (rw length-drop (omega (arith, s)));
+      list = rw (e, f) refl;
+    }
 
-  pub misshapen_later : shaped e.kind e.content ≡ true → misshapen (e ∷ es) ≡ misshapen es
-  unfolding misshapen
-  misshapen_later h = rw h
+pub no_list : (ts ns d : List ℕ) → length ts ≡ 0 → extensions_from ts ns d ≡ []
+unfolding extensions_from
+no_list [] ns d h = refl
+no_list (t ∷ ts) ns d h = absurd (omega arith)
 
-pub misshapen_none : misshapen [] ≡ false
+-- the shapes, one after the other
+pub shapes_any : (es : List Extension) → list_any (λ (e : Extension). not (shaped e.kind e.content)) es ≡ misshapen es
 unfolding misshapen
-misshapen_none = refl
+shapes_any [] = refl
+shapes_any (e ∷ es) = ap (λ (b : Bool). not (shaped e.kind e.content) || b) (shapes_any es)
 
--- a type that stands again behind place i
-module _ (ts : List ℕ) (i : ℕ) where
-  module _ (t : ℕ) where
-    pub among_here : i < length ts → get_or ts i 0 ≡ t → among t (drop i ts) ≡ true
-    unfolding among
-    among_here h e = rw (drop-cons ts i 0, eq-eqb (get_or ts i 0) t e)
+-- a type among others
+pub among_any : (t : ℕ) (ts : List ℕ) → list_any (λ u. eqb u t) ts ≡ among t ts
+unfolding among
+among_any t [] = refl
+among_any t (u ∷ us) = ap (λ (b : Bool). eqb u t || b) (among_any t us)
 
-    pub among_later : i < length ts → (get_or ts i 0 ≡ t → ⊥) → among t (drop i ts) ≡ among t (drop (i + 1) ts)
-    unfolding among
-    among_later h e = rw (drop-cons ts i 0, add-one, ne_eqb (get_or ts i 0) t e)
-
-    pub among_end : length ts ≤ i → among t (drop i ts) ≡ false
-    unfolding among
-    among_end h = rw (drop_of_length-le ts)
-
-  pub repeats_here : i < length ts → among (get_or ts i 0) (drop (i + 1) ts) ≡ true → repeats (drop i ts) ≡ true
+module _ (ts ts' : List ℕ) (t : ℕ) (e : ts ≡ t ∷ ts') where
+  pub repeats_here : among t ts' ≡ true → repeats ts ≡ true
   unfolding repeats
-  repeats_here h e = rw (drop-cons ts i 0, ← add-one i, e)
+  repeats_here h = rw (e, h)
 
-  pub repeats_later : i < length ts → among (get_or ts i 0) (drop (i + 1) ts) ≡ false → repeats (drop i ts) ≡ repeats (drop (i + 1) ts)
+  pub repeats_later : among t ts' ≡ false → repeats ts ≡ repeats ts'
   unfolding repeats
-  repeats_later h e = let f : among (get_or ts i 0) (drop (suc i) ts) ≡ false = rw add-one at e in rw (add-one, drop-cons ts i 0, f)
+  repeats_later h = rw (e, h)
 
-  pub repeats_end : length ts ≤ i → repeats (drop i ts) ≡ false
-  unfolding repeats
-  repeats_end h = rw (drop_of_length-le ts)
-
--- the data of one extension, cut out of all data
-pub taken_long : (d : List ℕ) (from n : ℕ) → from + n ≤ length d → length (take n (drop from d)) ≡ n
-taken_long d from n h = length-take-le n (drop from d) (rw length-drop (omega arith))
+pub repeats_end : (ts : List ℕ) → length ts ≡ 0 → repeats ts ≡ false
+unfolding repeats
+repeats_end [] h = refl
+repeats_end (t ∷ ts) h = absurd (omega arith)

@@ -7,18 +7,24 @@ use Prim.Native.Nat.{ℕ, ◌+◌, ◌≤◌}
 use native.Mathlib.Omega.{arith}
 use lib.Dec.{ltb, eqb}
 use lib.ListN.{length, drop}
-use borrow.Author.Tests.{eqb-false, ne_eqb, ltb-false, not-false}
+use borrow.Author.Tests.{ltb-false}
+use Rattle.std.specs.Prelude.{Result, Ok, Err, MatchResult, ⊤, ◌⊎◌, Option, Some, None}
+use Rattle.std.specs.Option.{ok_or}
+use Rattle.std.proofs.Common.{inl, inr}
 use Rattle.seqs.specs.Pick.{pick}
-use Rattle.seqs.specs.Cases.{by_test, or_left, or_right}
+use Rattle.seqs.specs.Cases.{by_test, or_right}
 use Rattle.refusal.specs.First.{first_of}
 use Rattle.refusal.specs.Table.{refusal_of}
-use Rattle.refusal.proofs.First.{first_zero}
+use Rattle.refusal.specs.Reason.{refusal_in}
+use Rattle.refusal.specs.declared.reason.Reason.{Reason}
+use Rattle.refusal.specs.declared.reason.Reason.TheVariants as reason
 use Rattle.message.specs.Frame.{overlong}
 use Rattle.hello.specs.Extensions.{twice}
 use Rattle.hello.specs.Fields.{Hello}
 use Rattle.hello.specs.Written.{written_block}
 use Rattle.writing.specs.Lists.{fitting, extensions_from, misshapen}
 use Rattle.writing.specs.Promise.{unblocked, write_number, Writes}
+use Rattle.writing.specs.Tried.{written_of, Tries}
 use Rattle.writing.specs.Steps.{repeats, block_size, size_or, list_outside, judged}
 use Rattle.writing.specs.declared.judging.Written.{Written}
 use Rattle.writing.proofs.Walking.{fitting_counts, fitting_sums}
@@ -32,35 +38,61 @@ unfolding written_block
 closing_long true ts ns d h = let e = written_long ts ns d (fitting_counts ts ns d h) (fitting_sums ts ns d h) in omega arith
 closing_long false ts ns d h = refl
 
+-- an attempt, by its tests: outside its bounds, and else as judged
+abbrev tried : Bool → Result ⊤ Reason → ℕ → Result ℕ Reason
+tried true j n = Err reason.Length
+tried false (Ok u) n = Ok n
+tried false (Err r) n = Err r
+
+-- it is answered with the number, and where that is 0 with the size
+pub record Answers (number whole : ℕ) (r : Result ℕ Reason) : Type 0 where
+  pub refusal : refusal_in r ≡ refusal_of number
+  pub size : MatchResult r (λ n. (number ≡ 0) × (n ≡ whole)) (λ _. eqb number 0 ≡ false)
+
 -- the tests of the definition, taken together as the code takes them
-tests_join : (o u v m t w : Bool) (size room : ℕ) → (size ≡ 0 → ⊥)
-    → judged (size_or (o || (u || v)) size) m t w room
-    ≡ first_of ((10, o) ∷ (10, false) ∷ (10, u) ∷ (10, v) ∷ (1, m) ∷ (2, t) ∷ (3, w) ∷ (10, ltb room size) ∷ [])
-unfolding judged first_of
-tests_join true u v m t w size room some = refl
-tests_join false true v m t w size room some = refl
-tests_join false false true m t w size room some = refl
-tests_join false false false m t w size room some = rw (ne_eqb size 0 some)
+tests_join : (o n u v m t w s : Bool) (size : ℕ)
+    → Answers (first_of ((10, o) ∷ (10, n) ∷ (10, u) ∷ (10, v) ∷ (1, m) ∷ (2, t) ∷ (3, w) ∷ (10, s) ∷ [])) size (tried (o || (n || (u || v))) (judged m t w s) size)
+unfolding judged first_of refusal_of
+tests_join true n u v m t w s size = record { refusal = refl; size = refl }
+tests_join false true u v m t w s size = record { refusal = refl; size = refl }
+tests_join false false true v m t w s size = record { refusal = refl; size = refl }
+tests_join false false false true m t w s size = record { refusal = refl; size = refl }
+tests_join false false false false true t w s size = record { refusal = refl; size = refl }
+tests_join false false false false false true w s size = record { refusal = refl; size = refl }
+tests_join false false false false false false true s size = record { refusal = refl; size = refl }
+tests_join false false false false false false false true size = record { refusal = refl; size = refl }
+tests_join false false false false false false false false size = record { refusal = refl; size = (refl, refl) }
 
 or_true : (o : Bool) → (o || true) ≡ true
 or_true true = refl
 or_true false = refl
+
+-- why nothing is written, and what is
+judged_ok : (m t w s : Bool) (u : ⊤) → Ok u ≡ judged m t w s → s ≡ false
+unfolding judged
+judged_ok true t w s u e = cc
+judged_ok false true w s u e = cc
+judged_ok false false true s u e = cc
+judged_ok false false false true u e = cc
+judged_ok false false false false u e = refl
 
 -- the number, for either hello: o is the test of its fields, front the bytes before its extension block
 module _ (outside : Hello → Bool) (bytes : Hello → List ℕ) (wrong : ℕ → Bool) (f : Hello) (ts ns d : List ℕ) (front : ℕ) (o : Bool) where
   abbrev sized : ℕ
   sized = front + block_size f.block (length ts) (length d)
 
-  abbrev found : ℕ
-  found = size_or (o || list_outside front (fitting ts ns d) f.block (length ts) (length d)) sized
+  abbrev listed_outside : Bool
+  listed_outside = list_outside front f.block (length ts) (length d)
+
+  abbrev number : List ℕ → ℕ
+  number out = write_number outside bytes wrong (fitting ts ns d) f out
 
   pub record Counts : Type 0 where
     pub list : f.extensions ≡ extensions_from ts ns d
     pub fields : o ≡ outside f
     pub long : fitting ts ns d ≡ true → o ≡ false → length (bytes f) ≡ sized
-    pub some : front ≡ 0 → ⊥
 
-  module _ (k : Counts) where
+  module _ (k : Counts) (out : List ℕ) where
     count_from : fitting ts ns d ≡ true → length (extensions_from ts ns d) ≡ length ts
     count_from q = sym (types_count _) ∙ ap length (types_back ts ns d q)
 
@@ -72,79 +104,106 @@ module _ (outside : Hello → Bool) (bytes : Hello → List ℕ) (wrong : ℕ �
     unfolding overlong
     over l = rw l
 
-    fitted : (out : List ℕ) → o ≡ false → fitting ts ns d ≡ true
-        → judged found (misshapen (extensions_from ts ns d)) (repeats ts) (wrong f.version) (length out)
-        ≡ write_number outside bytes wrong (fitting ts ns d) f out
-    unfolding write_number list_outside
-    fitted out p q =
-        let e : outside f ≡ false = sym k.fields ∙ p in
-        let t : twice (extensions_from ts ns d) ≡ repeats ts = twice_repeats _ ∙ ap repeats (types_back ts ns d q) in
-        let u : unblocked f ≡ (not f.block && not (eqb (length ts) 0)) = blocked q in
-        let v : overlong (bytes f) ≡ ltb 16388 sized = over (k.long q p) in
-        let s : ltb (length out) (length (bytes f)) ≡ ltb (length out) sized = ap (ltb (length out)) (k.long q p) in
-        rw (p, q, e, u, v, s, k.list, t) (tests_join false _ _ _ _ _ sized (length out) (λ z. k.some (omega arith)))
+    abbrev verdict : ℕ → Result ⊤ Reason
+    verdict size = judged (misshapen (extensions_from ts ns d)) (repeats ts) (wrong f.version) (ltb (length out) size)
 
-    number_is : (out : List ℕ)
-        → judged found (misshapen (extensions_from ts ns d)) (repeats ts) (wrong f.version) (length out)
-        ≡ write_number outside bytes wrong (fitting ts ns d) f out
-    unfolding write_number unblocked overlong list_outside judged first_of
-    number_is out =
-        by_test o
-        (λ p. let e : outside f ≡ true = sym k.fields ∙ p in rw (p, e))
-        (λ p.
-        let e : outside f ≡ false = sym k.fields ∙ p in
-        by_test (fitting ts ns d) (fitted out p) (λ q. rw (p, q, e)))
+    -- fields outside their bounds, and lists that do not fit
+    pub unbounded : (o ≡ true) ⊎ (fitting ts ns d ≡ false) → Answers (number out) sized (Err reason.Length)
+    unfolding write_number
+    unbounded (inl p) =
+        let e : outside f ≡ true = sym k.fields ∙ p in
+        rw e (tests_join true _ _ _ _ _ _ _ sized)
+    unbounded (inr q) =
+        by_test (outside f)
+        (λ p. rw p (tests_join true _ _ _ _ _ _ _ sized))
+        (λ p. rw (p, q) (tests_join false true _ _ _ _ _ _ sized))
 
-    -- the size that the code found, and the number that it answers
-    module _ {size : ℕ} (e : size ≡ found) where
-      pub number_of : {number : ℕ} (out : List ℕ) → number ≡ judged size (misshapen (extensions_from ts ns d)) (repeats ts) (wrong f.version) (length out)
-          → number ≡ write_number outside bytes wrong (fitting ts ns d) f out
-      number_of out n = n ∙ ap (λ (x : ℕ). judged x (misshapen (extensions_from ts ns d)) (repeats ts) (wrong f.version) (length out)) e ∙ number_is out
+    module _ (q : fitting ts ns d ≡ true) where
+      bounded : o ≡ false → Answers (number out) sized (tried listed_outside (verdict sized) sized)
+      unfolding write_number list_outside
+      bounded p =
+          let e : outside f ≡ false = sym k.fields ∙ p in
+          let t : twice (extensions_from ts ns d) ≡ repeats ts = twice_repeats _ ∙ ap repeats (types_back ts ns d q) in
+          let u : unblocked f ≡ (not f.block && not (eqb (length ts) 0)) = blocked q in
+          let v : overlong (bytes f) ≡ ltb 16388 sized = over (k.long q p) in
+          let s : ltb (length out) (length (bytes f)) ≡ ltb (length out) sized = ap (ltb (length out)) (k.long q p) in
+          rw (q, e, u, v, s, k.list, t) (tests_join false false _ _ _ _ _ _ sized)
 
-      -- a size other than 0 is that of lists that fit
-      pub some_fits : (size ≡ 0 → ⊥) → fitting ts ns d ≡ true
-      unfolding list_outside
-      some_fits h = by_test (fitting ts ns d) (λ q. q) (λ q. absurd (h (e ∙ (rw (q, or_true o)))))
+      -- no size was found
+      pub unsized : (r : Reason) → Err r ≡ size_or (o || listed_outside) sized → Answers (number out) sized (Err r)
+      unsized r h =
+          by_test o
+          (λ p. let e : Err r ≡ Err reason.Length = rw p at h in rw e (unbounded (inl p)))
+          (λ p.
+          by_test listed_outside
+          (λ l. let e : Err r ≡ Err reason.Length = rw (p, l) at h in rw e (rw l at (bounded p)))
+          (λ l. let e : ◌≡◌ {A = Result ℕ Reason} (Err r) (Ok sized) = rw (p, l) at h in cc))
 
-      -- what is known where the number is 0
-      pub record Clear (room : ℕ) : Type 0 where
-        pub bounded : o ≡ false
-        pub fits : fitting ts ns d ≡ true
-        pub whole : size ≡ sized
-        pub written : size ≡ length (bytes f)
-        pub short : size ≤ 16388
-        pub space : size ≤ room
+      -- one was found
+      module _ (n : ℕ) (h : Ok n ≡ size_or (o || listed_outside) sized) where
+        record Sized : Type 0 where
+          inside : o ≡ false
+          listed : listed_outside ≡ false
+          whole : n ≡ sized
 
-      pub clear : {number : ℕ} (m t w : Bool) (room : ℕ) → number ≡ judged size m t w room → number ≡ 0 → Clear room
-      unfolding judged list_outside
-      clear m t w room n y =
-          let z = first_zero _ refl (sym n ∙ y) in
-          go (o || list_outside front (fitting ts ns d) f.block (length ts) (length d)) refl (eqb-false size 0 z.0) (ltb-false room size z.1.1.1.1.0)
-        where
-          go : (x : Bool) → (o || list_outside front (fitting ts ns d) f.block (length ts) (length d)) ≡ x → (size ≡ 0 → ⊥) → size ≤ room → Clear room
-          go true p n l = absurd (n (e ∙ (rw p)))
-          go false p n l =
-              let s : size ≡ sized = e ∙ (rw p) in
-              let b = or_left o _ p in
-              let q = or_right o _ p in
-              let u = or_left (not (fitting ts ns d) || (not f.block && not (eqb (length ts) 0))) _ q in
-              let g = not-false _ (or_left (not (fitting ts ns d)) _ u) in
-              record {
-                bounded = b;
-                fits = g;
-                whole = s;
-                written = s ∙ sym (k.long g b);
-                short = rw s (ltb-false 16388 sized (or_right (not (fitting ts ns d) || (not f.block && not (eqb (length ts) 0))) _ q));
-                space = l;
-              }
+        sizes : Sized
+        sizes =
+            by_test o
+            (λ p. let e : ◌≡◌ {A = Result ℕ Reason} (Ok n) (Err reason.Length) = rw p at h in cc)
+            (λ p.
+            by_test listed_outside
+            (λ l. let e : ◌≡◌ {A = Result ℕ Reason} (Ok n) (Err reason.Length) = rw (p, l) at h in cc)
+            (λ l. let e : Ok n ≡ Ok sized = rw (p, l) at h in record { inside = p; listed = l; whole = cc }))
 
--- the answer: refused, and done
-pub refuses : {n : ℕ} {r : Written} (number : ℕ) (message out : List ℕ) → n ≡ number → (n ≡ 0 → ⊥)
-    → r ≡ record { refusal = refusal_of n; length = 0 } → Writes number message out out r
-refuses {n} number message out e h a =
-    let z : eqb number 0 ≡ false = ne_eqb number 0 (λ y. h (e ∙ y)) in
-    record { refusal = rw (a, e); size = rw (z, a); output = rw z }
+        pub unjudged : (r : Reason) → Err r ≡ verdict n → Answers (number out) sized (Err r)
+        unjudged r e =
+            let s = sizes in
+            let j : verdict sized ≡ Err r = sym (rw s.whole at e) in
+            rw (s.listed, j) at (bounded s.inside)
 
-pub writes : {size : ℕ} {out' : List ℕ} {r : Written} (number : ℕ) (message out : List ℕ) → number ≡ 0 → size ≡ length message
-    → out' ≡ message ++ drop (length message) out → r ≡ record { refusal = refusal_of 0; length = size } → Writes number message out out' r
-writes number message out z s w a = record { refusal = rw (a, z); size = rw (z, a) s; output = rw z w }
+        -- what is known where it is written
+        pub record Clear : Type 0 where
+          pub bounded : o ≡ false
+          pub whole : n ≡ sized
+          pub written : n ≡ length (bytes f)
+          pub short : n ≤ 16388
+          pub space : n ≤ length out
+          pub answer : Answers (number out) sized (Ok n)
+
+        pub clear : (u : ⊤) → Ok u ≡ verdict n → Clear
+        unfolding list_outside
+        clear u e =
+            let s = sizes in
+            let j : verdict sized ≡ Ok u = sym (rw s.whole at e) in
+            let a : Answers (number out) sized (Ok sized) = rw (s.listed, j) at (bounded s.inside) in
+            record {
+              bounded = s.inside;
+              whole = s.whole;
+              written = s.whole ∙ sym (k.long q s.inside);
+              short = rw s.whole (ltb-false 16388 sized (or_right (not f.block && not (eqb (length ts) 0)) _ s.listed));
+              space = ltb-false (length out) n (judged_ok _ _ _ _ u e);
+              answer = rw s.whole a;
+            }
+
+-- refused, and done
+pub refuses : {number size : ℕ} (message out : List ℕ) (r : Reason) → Answers number size (Err r) → Tries number message out out (Err r)
+refuses message out r a = record { refusal = a.refusal; size = a.size; output = rw a.size }
+
+pub writes : {number size : ℕ} {out' : List ℕ} (message out : List ℕ) (n : ℕ) → Answers number size (Ok n) → n ≡ length message
+    → out' ≡ message ++ drop (length message) out → Tries number message out out' (Ok n)
+writes message out n a s w = record { refusal = a.refusal; size = (a.size.0, s); output = rw a.size.0 w }
+
+-- as it is handed over
+pub handed : {number : ℕ} {message out out' : List ℕ} {w : Written} (r : Result ℕ Reason) → w ≡ written_of r → Tries number message out out' r
+    → Writes number message out out' w
+handed (Ok n) e t = record { refusal = rw e t.refusal; size = rw (e, t.size.0) t.size.1; output = t.output }
+handed (Err r) e t = record { refusal = rw e t.refusal; size = rw (e, t.size); output = t.output }
+
+-- what `ok_or` makes of an option
+pub some_of : {A E : Type 0} (o : Option A) (e : E) (x : A) → ok_or o e ≡ Ok x → o ≡ Some x
+some_of None e x h = let z : ◌≡◌ {A = Result _ _} (Err e) (Ok x) = h in cc
+some_of (Some y) e x h = cc
+
+pub none_of : {A E : Type 0} (o : Option A) (e r : E) → ok_or o e ≡ Err r → (o ≡ None) × (r ≡ e)
+none_of None e r h = (refl, cc)
+none_of (Some y) e r h = let z : ◌≡◌ {A = Result _ _} (Ok y) (Err r) = h in cc

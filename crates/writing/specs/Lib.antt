@@ -4,3 +4,5 @@ pub mod Promise
 pub mod Steps
 pub mod RoundTrip
 pub mod Examples
+pub mod Lent
+pub mod Tried

@@ -12,11 +12,14 @@ total (n ∷ ns) = n + total ns
 unfoldable pub fitting : List ℕ → List ℕ → List ℕ → Bool
 fitting types lengths bytes = eqb (length types) (length lengths) && eqb (total lengths) (length bytes)
 
+abbrev pub extension_of : ℕ → List ℕ → Extension
+extension_of t d = record { kind = t; content = d }
+
 -- the list: each type with the next bytes of the data, as many as its length says
 unfoldable pub extensions_from : List ℕ → List ℕ → List ℕ → List Extension
 extensions_from [] lengths bytes = []
 extensions_from (t ∷ types) [] bytes = []
-extensions_from (t ∷ types) (n ∷ lengths) bytes = record { kind = t; content = take n bytes } ∷ extensions_from types lengths (drop n bytes)
+extensions_from (t ∷ types) (n ∷ lengths) bytes = extension_of t (take n bytes) ∷ extensions_from types lengths (drop n bytes)
 
 -- the other way round: what to lend for a list
 unfoldable pub types_of : List Extension → List ℕ

@@ -1,8 +1,10 @@
 -- What the writers' helpers answer.
 -- Assumes nothing.
-use Rattle.std.specs.Prelude.{Bool, false, not, ◌&&◌, ◌||◌, List, [], ◌∷◌, ℕ, ◌+◌, ◌*◌, ◌%◌, eqb, ltb}
+use Rattle.std.specs.Prelude.{Bool, false, not, ◌&&◌, ◌||◌, List, [], ◌∷◌, ℕ, ◌+◌, ◌*◌, ◌%◌, eqb, ltb, Result, Ok, Err, ⊤}
 use Rattle.seqs.specs.Pick.{pick}
-use Rattle.refusal.specs.First.{first_of}
+use Rattle.refusal.specs.declared.reason.Reason.{Reason}
+use Rattle.refusal.specs.declared.reason.Reason.TheVariants as reason
+use Rattle.writing.specs.Messages.{vector8, vector16}
 
 -- t is among the types
 unfoldable pub among : ℕ → List ℕ → Bool
@@ -18,9 +20,13 @@ repeats (t ∷ ts) = among t ts || repeats ts
 abbrev pub block_size : Bool → ℕ → ℕ → ℕ
 block_size block count bytes = pick block (2 + 4 * count + bytes) 0
 
--- a size, and 0 where it is none
-abbrev pub size_or : Bool → ℕ → ℕ
-size_or outside size = pick outside 0 size
+-- a vector that has at most high bytes
+abbrev pub vector_of : ℕ → List ℕ → List ℕ
+vector_of high l = pick (ltb high 256) (vector8 l) (vector16 l)
+
+-- a size, if it is one
+abbrev pub size_or : Bool → ℕ → Result ℕ Reason
+size_or outside size = pick outside (Err reason.Length) (Ok size)
 
 -- the lengths of random and identifier are outside their bounds
 unfoldable pub opens_outside : ℕ → ℕ → Bool
@@ -31,25 +37,25 @@ unfoldable pub lists_outside : ℕ → ℕ → Bool
 lists_outside suites methods = ltb suites 2 || ltb 65534 suites || not (eqb (suites % 2) 0) || ltb methods 1 || ltb 255 methods
 
 -- and the list of extensions, or the whole message: front bytes stand before the extension block
-unfoldable pub list_outside : ℕ → Bool → Bool → ℕ → ℕ → Bool
-list_outside front fits block count bytes =
-    not fits || (not block && not (eqb count 0)) || ltb 16388 (front + block_size block count bytes)
+unfoldable pub list_outside : ℕ → Bool → ℕ → ℕ → Bool
+list_outside front block count bytes = (not block && not (eqb count 0)) || ltb 16388 (front + block_size block count bytes)
 
--- how many bytes a message has, by the lengths of its fields; 0 where one of them is outside its bounds
-abbrev pub whole_size : ℕ → Bool → Bool → ℕ → ℕ → ℕ
-whole_size front fits block count bytes = size_or (list_outside front fits block count bytes) (front + block_size block count bytes)
+-- how many bytes a message has, by the lengths of its fields
+abbrev pub whole_size : ℕ → Bool → ℕ → ℕ → Result ℕ Reason
+whole_size front block count bytes = size_or (list_outside front block count bytes) (front + block_size block count bytes)
 
-abbrev pub client_size : ℕ → ℕ → ℕ → ℕ → Bool → Bool → ℕ → ℕ → ℕ
-client_size random identifier suites methods fits block count bytes =
+abbrev pub client_size : ℕ → ℕ → ℕ → ℕ → Bool → ℕ → ℕ → Result ℕ Reason
+client_size random identifier suites methods block count bytes =
     let front = 42 + identifier + suites + methods in
-    size_or (opens_outside random identifier || lists_outside suites methods || list_outside front fits block count bytes) (front + block_size block count bytes)
+    size_or ((opens_outside random identifier || lists_outside suites methods) || list_outside front block count bytes) (front + block_size block count bytes)
 
-abbrev pub server_size : ℕ → ℕ → Bool → Bool → ℕ → ℕ → ℕ
-server_size random identifier fits block count bytes =
+abbrev pub server_size : ℕ → ℕ → Bool → ℕ → ℕ → Result ℕ Reason
+server_size random identifier block count bytes =
     let front = 42 + identifier in
-    size_or (opens_outside random identifier || list_outside front fits block count bytes) (front + block_size block count bytes)
+    size_or (opens_outside random identifier || list_outside front block count bytes) (front + block_size block count bytes)
 
--- the number, by the size that was found
-unfoldable pub judged : ℕ → Bool → Bool → Bool → ℕ → ℕ
-judged size misshapen twice wrong room =
-    first_of ((10, eqb size 0) ∷ (1, misshapen) ∷ (2, twice) ∷ (3, wrong) ∷ (10, ltb room size) ∷ [])
+-- why a message that has a size is refused, if it is: 'The writer of order 1 gives place 0'
+unfoldable pub judged : Bool → Bool → Bool → Bool → Result ⊤ Reason
+judged misshapen twice wrong short =
+    pick misshapen (Err (reason.Malformed 0))
+    (pick twice (Err (reason.Repeated 0)) (pick wrong (Err reason.Version) (pick short (Err reason.Length) (Ok tt))))

@@ -1,11 +1,11 @@
-// The answer of a writer, and its number.
-ghost use Rattle.std.specs.Prelude.{◌≡◌, true};
-ghost use Rattle.refusal.specs.Table.{refusal_of};
-ghost use Rattle.writing.specs.Lists.{fitting, extensions_from, misshapen};
+// The answer of a writer, and why it refuses.
+ghost use Rattle.std.specs.Prelude.{◌≡◌, ltb};
+ghost use Rattle.writing.specs.Lists.{misshapen};
 ghost use Rattle.writing.specs.Steps.{repeats, judged};
+ghost use Rattle.writing.specs.Lent.{lent};
 
-use crate::lists::{misshaped, repeated};
-use refusal::{Refusal, refuse};
+use crate::lists::List;
+use refusal::{Reason, Refusal, refuse};
 
 #[repr(C)]
 #[derive(Clone, Copy)]
@@ -15,39 +15,40 @@ pub struct Written {
     pub length: usize,
 }
 
-// Bounds, shapes, repeats, version, output. A size of 0 is outside its bounds, `room` is the output's length.
-pub(crate) fn judge(
-    size: usize,
-    types: &[u16],
-    lengths: &[u16],
-    data: &[u8],
-    wrong_version: bool,
-    room: usize,
-) -> u8
-    requires { (size ≡ 0 → ⊥) → fitting types.now lengths.now «data».now ≡ true }
-    ensures { result ≡ judged size (misshapen (extensions_from types.now lengths.now «data».now)) (repeats types.now) wrong_version room }
-{
-    if size == 0 {
-        return 10;
+impl From<Result<usize, Reason>> for Written {
+    ghost use Rattle.writing.specs.Tried.{written_of};
+
+    ghost from_gives = { λ tried written. written ≡ written_of tried };
+
+    fn from(tried: Result<usize, Reason>) -> Written {
+        match tried {
+            Ok(length) => Written {
+                refusal: refuse(0),
+                length,
+            },
+            Err(reason) => Written {
+                refusal: Refusal::from(reason),
+                length: 0,
+            },
+        }
     }
-    if misshaped(types, lengths, data) {
-        return 1;
-    }
-    if repeated(types) {
-        return 2;
-    }
-    if wrong_version {
-        return 3;
-    }
-    if room < size {
-        return 10;
-    }
-    0
 }
 
-pub(crate) fn answer(number: u8, length: usize) -> Written
-    ensures { result ≡ record { refusal = refusal_of number; length = length } }
+// Shapes, repeats, version, output: `room` is the output's length. A writer gives no place.
+pub(crate) fn judge(list: List, wrong_version: bool, size: usize, room: usize) -> Result<(), Reason>
+    ensures { result ≡ judged (misshapen (lent list.entry)) (repeats list.entry.types.now) wrong_version (ltb room size) }
 {
-    let refusal = refuse(number);
-    Written { refusal, length }
+    if list.is_misshaped() {
+        return Err(Reason::Malformed(0));
+    }
+    if list.repeats() {
+        return Err(Reason::Repeated(0));
+    }
+    if wrong_version {
+        return Err(Reason::Version);
+    }
+    if room < size {
+        return Err(Reason::Length);
+    }
+    Ok(())
 }

@@ -1,65 +1,80 @@
-// A list of extensions as a caller lends it: the types, the length of each one's data, and all data one after the other.
-ghost use Rattle.std.specs.Prelude.{◌≡◌, true};
-ghost use Rattle.writing.specs.Lists.{fitting, extensions_from, misshapen};
+// A list of extensions as a caller lends it.
+ghost use Rattle.std.specs.Prelude.{◌≡◌, true, false, ◌≤◌, ◌<◌, length, MatchOption};
+ghost use Rattle.std.specs.Iterator.{YieldsFirstBy, item_count};
+ghost use Rattle.writing.specs.Lists.{fitting, extension_of, extensions_from, misshapen};
 ghost use Rattle.writing.specs.Steps.{repeats};
 
 use hello::well_shaped;
 
-// There is a length for each type, and together they are exactly the data.
-pub(crate) fn fit(types: &[u16], lengths: &[u16], data: &[u8]) -> bool
-    ensures { result ≡ fitting types.now lengths.now «data».now }
-{
-    if types.len() != lengths.len() {
-        return false;
-    }
-    let mut left = data.len();
-    let mut i = 0;
-    while i < lengths.len() {
-        let n = lengths[i] as usize;
-        if left < n {
-            return false;
-        }
-        left -= n;
-        i += 1;
-    }
-    left == 0
+// The types, the length of each one's data, and all data one after the other. The extensions are handed out one after the other.
+#[derive(Clone, Copy)]
+pub(crate) struct List<'a> {
+    pub types: &'a [u16],
+    pub lengths: &'a [u16],
+    pub data: &'a [u8],
+    ghost fits: { fitting types.now lengths.now «data».now ≡ true },
 }
 
-// An RI or EMS of the wrong shape is among them.
-pub(crate) fn misshaped(types: &[u16], lengths: &[u16], data: &[u8]) -> bool
-    requires { fitting types.now lengths.now «data».now ≡ true }
-    ensures { result ≡ misshapen (extensions_from types.now lengths.now «data».now) }
-{
-    let mut from: usize = 0;
-    let mut i = 0;
-    while i < types.len() {
-        let to = from + lengths[i] as usize;
-        if !well_shaped(types[i] as usize, &data[from..to]) {
-            return true;
-        }
-        from = to;
-        i += 1;
+impl<'a> Iterator for List<'a> {
+    type Item = (u16, &'a [u8]);
+
+    ghost next_gives = { YieldsFirstBy (λ x. extension_of x.0 x.1.now) (λ l. extensions_from l.types.now l.lengths.now l.«data».now) };
+
+    ghost remaining = { item_count (λ l. extensions_from l.types.now l.lengths.now l.«data».now) };
+
+    fn next(&mut self) -> Option<(u16, &'a [u8])> {
+        let (kind, types) = self.types.split_first()?;
+        let (length, lengths) = self.lengths.split_first()?;
+        let (first, data) = self.data.split_at(*length as usize);
+        *self = List {
+            types,
+            lengths,
+            data,
+        };
+        Some((*kind, first))
     }
-    false
 }
 
-// Every pair of types is compared, up to the first repeat.
-pub(crate) fn repeated(types: &[u16]) -> bool
-    ensures { result ≡ repeats types.now }
-{
-    let mut found = false;
-    let mut i = 0;
-    'all: while i < types.len() {
-        let kind = types[i];
-        i += 1;
-        let mut j = i;
-        while j < types.len() {
-            if types[j] == kind {
-                found = true;
-                break 'all;
+impl<'a> List<'a> {
+    // There is a length for each type, and together they are exactly the data.
+    pub(crate) fn new(types: &'a [u16], lengths: &'a [u16], data: &'a [u8]) -> Option<List<'a>>
+        ensures { MatchOption result (fitting types.now lengths.now «data».now ≡ false) (λ l. (l.types.now ≡ types.now) × (l.lengths.now ≡ lengths.now) × (l.«data».now ≡ «data».now)) }
+    {
+        if types.len() != lengths.len() {
+            return None;
+        }
+        let mut left = data.len();
+        for length in lengths {
+            left = left.checked_sub(*length as usize)?;
+        }
+        if left != 0 {
+            return None;
+        }
+        Some(List {
+            types,
+            lengths,
+            data,
+        })
+    }
+
+    // An RI or EMS of the wrong shape is among them.
+    pub(crate) fn is_misshaped(mut self) -> bool
+        ensures { result ≡ misshapen (extensions_from self.entry.types.now self.entry.lengths.now self.entry.«data».now) }
+    {
+        self.any(|(kind, data)| !well_shaped(kind as usize, data))
+    }
+
+    // A type stands twice. Each type is compared with all behind it, up to the first repeat.
+    pub(crate) fn repeats(self) -> bool
+        ensures { result ≡ repeats self.entry.types.now }
+    {
+        let mut types = self.types;
+        while let Some((kind, rest)) = types.split_first() {
+            if rest.contains(kind) {
+                return true;
             }
-            j += 1;
+            types = rest;
         }
+        false
     }
-    found
 }

@@ -3,17 +3,21 @@
 ghost use Rattle.std.specs.Prelude.{◌≡◌, true, [], ◌∷◌, ◌++◌, ◌+◌, ◌*◌, ◌-◌, ◌≤◌, ◌<◌, length};
 ghost use Rattle.seqs.specs.Pick.{pick};
 ghost use Rattle.hello.specs.Written.{two_bytes, written_list, written_block};
-ghost use Rattle.writing.specs.Lists.{fitting, extensions_from};
+ghost use Rattle.hello.specs.Cuts.{width_of};
 ghost use Rattle.writing.specs.Messages.{three_bytes, vector8, vector16};
 ghost use Rattle.octets.specs.Placed.{placed};
-ghost use Rattle.writing.specs.Steps.{block_size};
+ghost use Rattle.writing.specs.Steps.{block_size, vector_of};
+ghost use Rattle.writing.specs.Lent.{lent, list_size};
+
+use crate::lists::List;
 
 fn put(out: &mut [u8], at: usize, bytes: &[u8]) -> usize
     requires { at + length bytes.now ≤ length out.old }
     ensures { (result ≡ at + length bytes.now) × (out.new ≡ placed out.old at bytes.now) }
 {
-    octets::put(&mut out[at..], bytes);
-    at + bytes.len()
+    let end = at + bytes.len();
+    out[at..end].copy_from_slice(bytes);
+    end
 }
 
 pub(crate) fn put_byte(out: &mut [u8], at: usize, byte: u8) -> usize
@@ -34,21 +38,16 @@ pub(crate) fn put_pair(out: &mut [u8], at: usize, number: usize) -> usize
     at + 2
 }
 
-// A vector whose length takes one byte.
-pub(crate) fn put_vector8(out: &mut [u8], at: usize, bytes: &[u8]) -> usize
-    requires { (at + 1 + length bytes.now ≤ length out.old) × (length bytes.now < 256) }
-    ensures { (result ≡ at + 1 + length bytes.now) × (out.new ≡ placed out.old at (vector8 bytes.now)) }
+// A vector of at most `high` bytes, of which each states its length in as many bytes as `high` takes, one or two.
+pub(crate) fn put_vector(out: &mut [u8], at: usize, bytes: &[u8], high: usize) -> usize
+    requires { (at + width_of high + length bytes.now ≤ length out.old) × (length bytes.now ≤ high) × (high < 65536) }
+    ensures { (result ≡ at + width_of high + length bytes.now) × (out.new ≡ placed out.old at (vector_of high bytes.now)) }
 {
-    let from = put_byte(out, at, bytes.len() as u8);
-    put(out, from, bytes)
-}
-
-// A vector whose length takes two bytes.
-pub(crate) fn put_vector16(out: &mut [u8], at: usize, bytes: &[u8]) -> usize
-    requires { (at + 2 + length bytes.now ≤ length out.old) × (length bytes.now < 65536) }
-    ensures { (result ≡ at + 2 + length bytes.now) × (out.new ≡ placed out.old at (vector16 bytes.now)) }
-{
-    let from = put_pair(out, at, bytes.len());
+    let from = if high < 256 {
+        put_byte(out, at, bytes.len() as u8)
+    } else {
+        put_pair(out, at, bytes.len())
+    };
     put(out, from, bytes)
 }
 
@@ -61,7 +60,7 @@ pub(crate) fn put_opening(
     random: &[u8],
     identifier: &[u8],
 ) -> usize
-    requires { (7 + length random.now + length identifier.now ≤ length out.old) × (4 ≤ size) × (size ≤ 65536) × (length identifier.now < 256) }
+    requires { (7 + length random.now + length identifier.now ≤ length out.old) × (4 ≤ size) × (size ≤ 65536) × (length identifier.now ≤ 32) }
     ensures { (result ≡ 7 + length random.now + length identifier.now) × (out.new ≡ placed out.old 0 ((kind ∷ three_bytes (size - 4)) ++ two_bytes version ++ random.now ++ vector8 identifier.now)) }
 {
     put_byte(out, 0, kind);
@@ -69,7 +68,7 @@ pub(crate) fn put_opening(
     put_pair(out, 2, size - 4);
     put_pair(out, 4, version as usize);
     let at = put(out, 6, random);
-    put_vector8(out, at, identifier)
+    put_vector(out, at, identifier, 32)
 }
 
 // An extension: its type, and its data behind their length.
@@ -78,39 +77,27 @@ fn put_extension(out: &mut [u8], at: usize, kind: u16, data: &[u8]) -> usize
     ensures { (result ≡ at + 4 + length «data».now) × (out.new ≡ placed out.old at (two_bytes kind ++ vector16 «data».now)) }
 {
     let length = put_pair(out, at, kind as usize);
-    put_vector16(out, length, data)
+    put_vector(out, length, data, 65535)
 }
 
 // The extensions, one after the other.
-fn put_list(out: &mut [u8], at: usize, types: &[u16], lengths: &[u16], data: &[u8])
-    requires { (fitting types.now lengths.now «data».now ≡ true) × (at + 4 * length types.now + length «data».now ≤ length out.old) }
-    ensures { out.new ≡ placed out.old at (written_list (extensions_from types.now lengths.now «data».now)) }
+fn put_list(out: &mut [u8], at: usize, list: List)
+    requires { (at + list_size list ≤ length out.old) × (list_size list < 65536) }
+    ensures { out.new ≡ placed out.old at (written_list (lent list.entry)) }
 {
     let mut to = at;
-    let mut from: usize = 0;
-    let mut i = 0;
-    while i < types.len() {
-        let next = from + lengths[i] as usize;
-        to = put_extension(out, to, types[i], &data[from..next]);
-        from = next;
-        i += 1;
+    for (kind, data) in list {
+        to = put_extension(out, to, kind, data);
     }
 }
 
 // The extension block, if there is one: a length that covers the list, and the list.
-pub(crate) fn put_block(
-    out: &mut [u8],
-    at: usize,
-    block: bool,
-    types: &[u16],
-    lengths: &[u16],
-    data: &[u8],
-)
-    requires { (fitting types.now lengths.now «data».now ≡ true) × (at + block_size block (length types.now) (length «data».now) ≤ length out.old) × (block_size block (length types.now) (length «data».now) < 65536) }
-    ensures { out.new ≡ placed out.old at (pick block (written_block (extensions_from types.now lengths.now «data».now)) []) }
+pub(crate) fn put_block(out: &mut [u8], at: usize, block: bool, list: List)
+    requires { (at + block_size block (length list.types.now) (length list.«data».now) ≤ length out.old) × (block_size block (length list.types.now) (length list.«data».now) < 65536) }
+    ensures { out.new ≡ placed out.old at (pick block (written_block (lent list.entry)) []) }
 {
     if block {
-        let list = put_pair(out, at, 4 * types.len() + data.len());
-        put_list(out, list, types, lengths, data);
+        let from = put_pair(out, at, 4 * list.types.len() + list.data.len());
+        put_list(out, from, list);
     }
 }

@@ -1,9 +1,12 @@
 // Writing a ServerHello (RFC 5246, section 7.4.1.3).
 ghost use Rattle.writing.specs.Promise.{WritesServer};
+ghost use Rattle.writing.specs.Tried.{TriesServer};
 
-use crate::judging::{Written, answer, judge};
+use crate::judging::{Written, judge};
+use crate::lists::List;
 use crate::places::{put_block, put_byte, put_opening, put_pair};
 use crate::sizes::server_size;
+use refusal::Reason;
 
 const SERVER_HELLO: u8 = 2;
 
@@ -24,14 +27,41 @@ pub fn write_server_hello(
 ) -> Written
     ensures { WritesServer version random.now identifier.now suite compression block types.now lengths.now «data».now out.old out.new result }
 {
-    let size = server_size(random, identifier, block, types, lengths, data);
-    let number = judge(size, types, lengths, data, version != VERSION, out.len());
-    if number != 0 {
-        return answer(number, 0);
-    }
+    Written::from(try_server(
+        version,
+        random,
+        identifier,
+        suite,
+        compression,
+        block,
+        types,
+        lengths,
+        data,
+        out,
+    ))
+}
+
+// How many bytes were written.
+fn try_server(
+    version: u16,
+    random: &[u8],
+    identifier: &[u8],
+    suite: u16,
+    compression: u8,
+    block: bool,
+    types: &[u16],
+    lengths: &[u16],
+    data: &[u8],
+    out: &mut [u8],
+) -> Result<usize, Reason>
+    ensures { TriesServer version random.now identifier.now suite compression block types.now lengths.now «data».now out.old out.new result }
+{
+    let list = List::new(types, lengths, data).ok_or(Reason::Length)?;
+    let size = server_size(random, identifier, block, &list)?;
+    judge(list, version != VERSION, size, out.len())?;
     let mut at = put_opening(out, SERVER_HELLO, size, version, random, identifier);
     at = put_pair(out, at, suite as usize);
     at = put_byte(out, at, compression);
-    put_block(out, at, block, types, lengths, data);
-    answer(0, size)
+    put_block(out, at, block, list);
+    Ok(size)
 }

@@ -1,11 +1,8 @@
--- Bytes put to their place by the one function that copies.
+-- Bytes copied to their place.
 -- Assumes nothing.
-use mathlib.Core.Path.{refl}
-use Rattle.octets.proofs.Placing.{placed_put}
-use native.Mathlib.Omega.{arith}
+use Rattle.std.proofs.Common.{refl, arith}
+use Rattle.writing.proofs.Listed.{placed_mid}
 use Rattle.writing.proofs.places.put.Goals as goal
 
 pub returns : goal.returns
-returns c =
-    let a = c.args in
-    (refl, placed_put a.out.now a.at a.bytes.now (omega arith) c.put.ensures.1)
+returns c = (refl, placed_mid c.args.out.now c.args.at _ c.args.bytes.now _ (omega arith) c.copy_from_slice.ensures.after)

@@ -1,73 +1,44 @@
 -- The extensions one after the other: what is written, with what is left behind it, is the whole list.
 -- Assumes nothing.
-use mathlib.Core.Path.{◌≡◌, refl, sym, ◌∙◌, ap}
-use mathlib.Core.List.{◌++◌}
-use Prim.Native.Nat.{◌+◌, ◌-◌}
-use native.Mathlib.Nat.{zero-add}
-use lib.ListN.{length, take, drop, get_or}
-use Rattle.hello.specs.Written.{two_bytes, written_list}
-use Rattle.writing.specs.Messages.{vector16}
+use Rattle.std.proofs.Common.{◌≡◌, List, ◌+◌, refl, sym, ◌∙◌, ap, length, arith}
+use Rattle.hello.specs.Extensions.{Extension}
+use Rattle.hello.specs.Written.{written_list}
 use Rattle.octets.specs.Placed.{placed}
-use Rattle.octets.proofs.Placing.{placed_nothing, length-placed}
-use Rattle.writing.proofs.Walking.{total_step, fitting_counts, fitting_sums, from_step, from_end, taken_long}
-use Rattle.writing.proofs.Listed.{placed_extension}
-use native.Mathlib.Omega.{arith}
+use Rattle.octets.proofs.Placing.{placed_nothing}
+use Rattle.writing.specs.Lent.{lent}
+use Rattle.writing.proofs.Walking.{fitting_counts, fitting_sums}
+use Rattle.writing.proofs.Listed.{written_long, written_more, placed_extension}
 use Rattle.writing.proofs.places.put_list.Goals as goal
+use Rattle.writing.proofs.places.put_list.Goals.{In-Some}
 
-pub loop-i-init : goal.loop-i-init
-loop-i-init c =
-    let a = c.args in (
-      omega arith,
-      fitting_counts a.types.now a.lengths.now a.«data».now c.requires.0,
-      zero-add _ ∙ fitting_sums a.types.now a.lengths.now a.«data».now c.requires.0,
-      omega (arith, c.requires.1),
-      refl,
-      refl,
-    )
+-- what the next extension takes of what is left
+taken : (c : In-Some) → length (written_list (lent c.loop-kind.kind-iterator)) ≡ 4 + length c.in-Some.«data».now + length (written_list (lent c.next.new.self))
+taken c = ap (λ (es : List Extension). length (written_list es)) c.in-Some.ensures.steps ∙ written_more c.in-Some.kind c.in-Some.«data».now (lent c.next.new.self)
 
-pub overflow_add-next : goal.overflow_add-next
-overflow_add-next c =
-    omega (arith, total_step c.args.lengths.now c.loop-i.i (omega arith))
-
-pub slice_bounds-put_extension-end : goal.slice_bounds-put_extension-end
-slice_bounds-put_extension-end c =
-    omega (arith, total_step c.args.lengths.now c.loop-i.i (omega arith))
+pub loop-kind-init : goal.loop-kind-init
+loop-kind-init c =
+    let l = c.args.list in
+    let n = written_long l.types.now l.lengths.now l.«data».now (fitting_counts l.types.now l.lengths.now l.«data».now l.fits) (fitting_sums l.types.now l.lengths.now l.«data».now l.fits) in
+    rw c.into_iter-kind-iterator.ensures.into_iter_gives (record { room = omega (arith, n, c.requires.0); small = omega (arith, n, c.requires.1); written = refl })
 
 pub put_extension-to-requires : goal.put_extension-to-requires
 put_extension-to-requires c =
-    let a = c.args in
-    let n = get_or a.lengths.now c.loop-i.i 0 in
-    let k : c.loop-i.from + n - c.loop-i.from ≡ n = omega arith in
-    let t = total_step a.lengths.now c.loop-i.i (omega arith) in
-    let m : length (take (c.loop-i.from + n - c.loop-i.from) (drop c.loop-i.from a.«data».now)) ≡ n = rw k (taken_long a.«data».now c.loop-i.from n (omega (arith, t))) in
-    (omega (arith, m, t), omega (arith, m, c.type_inv.lengths c.loop-i.i))
+    let t = taken (goal.at.put_extension-to-requires c).In-Some in
+    let v = c.loop-kind.invariant in
+    (omega (arith, t, v.room), omega (arith, t, v.small))
 
-pub loop-i-preserved : goal.loop-i-preserved
-loop-i-preserved c =
-    let a = c.args in
-    let i = c.loop-i.i in
-    let from = c.loop-i.from in
-    let n = get_or a.lengths.now i 0 in
-    let k : from + n - from ≡ n = omega arith in
-    let t = total_step a.lengths.now i (omega arith) in
-    let content = take n (drop from a.«data».now) in
-    let m : length content ≡ n = taken_long a.«data».now from n (omega (arith, t)) in
-    let q : c.put_extension-to.result ≡ c.loop-i.to + 4 + length content = rw k at c.put_extension-to.ensures.0 in
-    let w : c.put_extension-to.new.out ≡ placed c.loop-i.out c.loop-i.to (two_bytes (get_or a.types.now i 0) ++ vector16 content) = rw k at c.put_extension-to.ensures.1 in
-    let s = from_step a.types.now a.lengths.now a.«data».now i from (omega arith) (omega arith) n refl in
-    let g : length c.put_extension-to.new.out ≡ length c.loop-i.out = ap length w ∙ length-placed c.loop-i.out c.loop-i.to (two_bytes (get_or a.types.now i 0) ++ vector16 content) (omega (arith, m, t)) in (
-      omega arith,
-      c.loop-i.invariant.1,
-      omega (arith, t),
-      omega (arith, q, m, t, g),
-      g ∙ c.loop-i.invariant.4,
-      placed_extension c.loop-i.out c.loop-i.to c.put_extension-to.result (get_or a.types.now i 0) content _ (omega (arith, m, t)) q w
-          ∙ (rw s at c.loop-i.invariant.5),
-    )
+pub loop-kind-preserved : goal.loop-kind-preserved
+loop-kind-preserved c =
+    let t = taken (goal.at.loop-kind-preserved c).In-Some in
+    let v = c.loop-kind.invariant in
+    let e = c.put_extension-to.ensures in
+    record {
+      room = omega (arith, t, v.room, e.0, c.put_extension-to.auto.out);
+      small = omega (arith, t, v.small);
+      written = placed_extension c.loop-kind.out c.loop-kind.to c.put_extension-to.result c.in-Some.kind c.in-Some.«data».now (lent c.next.new.self) (omega (arith, t, v.room)) e.0 e.1
+          ∙ ap (λ (es : List Extension). placed c.loop-kind.out c.loop-kind.to (written_list es)) (sym c.in-Some.ensures.steps) ∙ v.written;
+    }
 
 pub returns : goal.returns
 unfolding written_list
-returns c =
-    let a = c.args in
-    let e = from_end a.types.now a.lengths.now a.«data».now c.loop-i.i c.loop-i.from (omega arith) in
-    sym (placed_nothing c.loop-i.out c.loop-i.to) ∙ (rw e at c.loop-i.invariant.5)
+returns c = sym (placed_nothing c.loop-kind.out c.loop-kind.to) ∙ (rw c.in-None.ensures.steps.0 at c.loop-kind.invariant.written)

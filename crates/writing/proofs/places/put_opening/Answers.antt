@@ -24,5 +24,5 @@ returns c =
     let w₃ = placed_more o 0 4 (a.kind ∷ 0 ∷ two_bytes n) v (omega (arith, c.requires)) (omega arith) w₂ c.put_pair-2.ensures.1 in
     let w₄ = placed_more o 0 6 (a.kind ∷ 0 ∷ (two_bytes n ++ v)) a.random.now (omega (arith, c.requires)) (omega arith) w₃ c.put-at.ensures.1 in
     let k = length-append (a.kind ∷ 0 ∷ (two_bytes n ++ v)) a.random.now in
-    let w₅ = placed_more o 0 c.put-at.result (a.kind ∷ 0 ∷ (two_bytes n ++ v ++ a.random.now)) (vector8 a.identifier.now) (omega (arith, c.requires, k)) (omega (arith, k, c.put-at.ensures.0)) w₄ c.put_vector8.ensures.1 in
-    (omega (arith, c.put_vector8.ensures.0, c.put-at.ensures.0), w₅ ∙ ap (λ (l : List ℕ). placed o 0 ((a.kind ∷ l) ++ v ++ a.random.now ++ vector8 a.identifier.now)) (sym h))
+    let w₅ = placed_more o 0 c.put-at.result (a.kind ∷ 0 ∷ (two_bytes n ++ v ++ a.random.now)) (vector8 a.identifier.now) (omega (arith, c.requires, k)) (omega (arith, k, c.put-at.ensures.0)) w₄ c.put_vector.ensures.1 in
+    (omega (arith, c.put_vector.ensures.0, c.put-at.ensures.0), w₅ ∙ ap (λ (l : List ℕ). placed o 0 ((a.kind ∷ l) ++ v ++ a.random.now ++ vector8 a.identifier.now)) (sym h))
