@@ -4,6 +4,7 @@ pub mod Texts
 pub mod Beginnings
 pub mod Handing
 pub mod Types
+pub mod Asked
 pub mod Reading
 pub mod Pairs
 pub mod Judging

@@ -9,7 +9,7 @@ ghost use Rattle.comparing.specs.Steps.{Sees, Within, hello_at};
 ghost use Rattle.comparing.specs.Pages.{HasRoom, Puts};
 
 use crate::lines::Page;
-use hello::{ClientRead, Part, ServerRead, read_client_hello, read_server_hello};
+use hello::{Part, read_client_hello, read_server_hello};
 
 // A hello that was read, client's or server's: where its fields stand in the message.
 #[derive(Clone, Copy)]
@@ -26,23 +26,15 @@ pub(crate) struct Fields {
 pub(crate) fn as_client(message: &[u8]) -> Option<Fields>
     ensures { Sees message.now (read_client message.now) result }
 {
-    let read = read_client_hello(message);
-    let ClientRead::Read(hello) = read else {
-        return None;
-    };
-    let random = hello.random;
-    let identifier = hello.identifier;
-    let suites = hello.suites;
-    let methods = hello.methods;
-    let extensions = hello.extensions;
-    let list = extensions.list;
+    let hello = read_client_hello(message).ok()?;
+    let list = hello.extensions.list.at;
     Some(Fields {
         version: hello.version,
-        random,
-        identifier,
-        suites,
-        methods,
-        list: list.at,
+        random: hello.random,
+        identifier: hello.identifier,
+        suites: hello.suites,
+        methods: hello.methods,
+        list,
     })
 }
 
@@ -50,18 +42,13 @@ pub(crate) fn as_client(message: &[u8]) -> Option<Fields>
 pub(crate) fn as_server(message: &[u8]) -> Option<Fields>
     ensures { Sees message.now (read_server message.now) result }
 {
-    let read = read_server_hello(message);
-    let ServerRead::Read(hello) = read else {
-        return None;
-    };
-    let random = hello.random;
+    let hello = read_server_hello(message).ok()?;
     let identifier = hello.identifier;
     let suite = identifier.at + identifier.length;
-    let extensions = hello.extensions;
-    let list = extensions.list;
+    let list = hello.extensions.list.at;
     Some(Fields {
         version: hello.version,
-        random,
+        random: hello.random,
         identifier,
         suites: Part {
             at: suite,
@@ -71,7 +58,7 @@ pub(crate) fn as_server(message: &[u8]) -> Option<Fields>
             at: suite + 2,
             length: 1,
         },
-        list: list.at,
+        list,
     })
 }
 
