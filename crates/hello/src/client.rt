@@ -15,7 +15,7 @@ use refusal::Reason;
 
 // A ClientHello that was read.
 #[repr(C)]
-#[derive(Clone, Copy)]
+#[derive(Clone, Copy, Default)]
 pub struct ClientHello {
     pub version: u16,
     pub random: Part,

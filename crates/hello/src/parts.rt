@@ -29,7 +29,7 @@ impl Part {
 
 // What a hello says by its extensions. Flags are 0 or 1.
 #[repr(C)]
-#[derive(Clone, Copy)]
+#[derive(Clone, Copy, Default)]
 pub struct Extensions {
     // there is an extension block, which may be empty
     pub block: u8,

@@ -14,7 +14,7 @@ use refusal::Reason;
 
 // A ServerHello that was read.
 #[repr(C)]
-#[derive(Clone, Copy)]
+#[derive(Clone, Copy, Default)]
 pub struct ServerHello {
     pub version: u16,
     pub random: Part,
