@@ -27,8 +27,7 @@ use Rattle.message_log.specs.declared.state.Log.{Log}
 use Rattle.message_log.specs.declared.answers.Finished.{Finished}
 use Rattle.decision.specs.declared.connection.Connection.{Connection}
 use Rattle.decision.specs.declared.connection.Decision.{Decision}
-use Rattle.gateway.specs.declared.completion.Completed.{Completed}
-use Rattle.gateway.specs.Completion.{complete_number, completed_record, completed_of, Completes, WritesChecked, NotBetween}
+use Rattle.gateway.specs.Completion.{Completed, complete_number, completed_record, completed_of, Completes, WritesChecked, NotBetween}
 
 -- 7, and the record as it was
 abbrev pub refused_with : Connection → Completed

@@ -1,6 +1,7 @@
 -- What specs/Readings.antt says the answers of the hello readers tell.
 -- Assumes nothing.
 use mathlib.Core.Path.{◌≡◌, refl, sym, ◌∙◌, ap₂}
+use Rattle.std.proofs.Common.{Result, Ok, Err}
 use native.Mathlib.Omega.{arith}
 use Rattle.seqs.specs.Cases.{by_test}
 use Rattle.refusal.specs.Table.{placed, refusal_of}
@@ -9,10 +10,8 @@ use Rattle.refusal.specs.declared.Refusal.{Refusal}
 use Rattle.hello.specs.Fields.{Reading, fault, read_client, read_server}
 use Rattle.hello.specs.Places.{client_answer, server_answer}
 use Rattle.hello.specs.Learnt.{ClientLearnt, ServerLearnt}
-use Rattle.hello.specs.declared.client.ClientRead.{ClientRead}
-use Rattle.hello.specs.declared.client.ClientRead.TheVariants as client
-use Rattle.hello.specs.declared.server.ServerRead.{ServerRead}
-use Rattle.hello.specs.declared.server.ServerRead.TheVariants as server
+use Rattle.hello.specs.declared.client.ClientHello.{ClientHello}
+use Rattle.hello.specs.declared.server.ServerHello.{ServerHello}
 use Rattle.hello.proofs.Learnt.{Faulted, client_learnt, client_fault, server_learnt, server_fault}
 use Rattle.gateway.specs.Hellos.{no_client_hello, no_server_hello, client_reading, server_reading}
 use Rattle.gateway.specs.Readings.{Tells, ClientAnswerTells, ServerAnswerTells}
@@ -37,16 +36,16 @@ pub client_answer-tells : ClientAnswerTells
 unfolding client_reading
 client_answer-tells m r e = rw e (go (client_answer (read_client m)) refl)
   where
-    go : (a : ClientRead) → a ≡ client_answer (read_client m)
+    go : (a : Result ClientHello Refusal) → a ≡ client_answer (read_client m)
         → Tells (read_client m) (ClientLearnt m) no_client_hello (client_reading a).refusal (client_reading a).hello
-    go (client.Read h) p = tells_read _ _ _ _ h refl (client_learnt m h p)
-    go (client.Refused x) p = tells_fault _ _ _ x _ (client_fault m x p) refl
+    go (Ok h) p = tells_read _ _ _ _ h refl (client_learnt m h p)
+    go (Err x) p = tells_fault _ _ _ x _ (client_fault m x p) refl
 
 pub server_answer-tells : ServerAnswerTells
 unfolding server_reading
 server_answer-tells m r e = rw e (go (server_answer (read_server m)) refl)
   where
-    go : (a : ServerRead) → a ≡ server_answer (read_server m)
+    go : (a : Result ServerHello Refusal) → a ≡ server_answer (read_server m)
         → Tells (read_server m) (ServerLearnt m) no_server_hello (server_reading a).refusal (server_reading a).hello
-    go (server.Read h) p = tells_read _ _ _ _ h refl (server_learnt m h p)
-    go (server.Refused x) p = tells_fault _ _ _ x _ (server_fault m x p) refl
+    go (Ok h) p = tells_read _ _ _ _ h refl (server_learnt m h p)
+    go (Err x) p = tells_fault _ _ _ x _ (server_fault m x p) refl

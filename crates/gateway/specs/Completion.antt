@@ -1,10 +1,12 @@
 -- Completion (document 01, 'The message log'): the one place where a connection record changes.
 -- Assumes nothing.
-use Rattle.std.specs.Prelude.{◌≡◌, true, not, List, [], ◌∷◌, ℕ, eqb}
+use Rattle.std.specs.Prelude.{◌≡◌, true, not, List, [], ◌∷◌, ℕ, eqb, Result, Ok, Err}
 use Rattle.seqs.specs.Pick.{pick}
 use Rattle.seqs.specs.Flag.{yes, bit}
 use Rattle.refusal.specs.First.{first_of}
 use Rattle.refusal.specs.Table.{refusal_of}
+use Rattle.refusal.specs.Reason.{refusal_for}
+use Rattle.refusal.specs.declared.reason.Reason.{Reason}
 use Rattle.refusal.specs.declared.Refusal.{Refusal}
 use Rattle.message_log.specs.History.History.{fresh}
 use Rattle.message_log.specs.History.Side.{client, server}
@@ -17,7 +19,6 @@ use Rattle.message_log.specs.declared.state.Log.{Log}
 use Rattle.message_log.specs.declared.answers.Finished.{Finished}
 use Rattle.decision.specs.declared.connection.Connection.{Connection}
 use Rattle.decision.specs.declared.connection.Decision.{Decision}
-use Rattle.gateway.specs.declared.completion.Completed.{Completed}
 
 -- 'earlier, with a refused decision, or where decision and log disagree on resuming, it is 7'
 unfoldable pub complete_number : Finished → Decision → ℕ
@@ -38,6 +39,16 @@ completed_record f d =
       client = f.client;
       server = f.server;
     }
+
+-- a call's refusal, and the record afterwards
+pub record Completed : Type 0 where
+  pub refusal : Refusal
+  pub connection : Connection
+
+-- of an answer: the record that it writes, or the one that there was
+abbrev pub left_by : Connection → Result Connection Reason → Completed
+left_by was (Ok written) = record { refusal = refusal_of 0; connection = written }
+left_by was (Err reason) = record { refusal = refusal_for reason; connection = was }
 
 -- the number with its alert, and the record afterwards: refused, as it was
 unfoldable pub completed_of : Connection → Finished → Decision → Completed

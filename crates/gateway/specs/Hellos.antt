@@ -1,15 +1,13 @@
--- The readers' answers as they cross the C face: an enum's number and values, set out for each of its cases. A refusal is its number,
+-- The readers' answers as they cross the C face: set out for each of their cases. A refusal is its number,
 -- alert and place 'and nothing else': every field beside it is zero.
 -- Assumes nothing.
+use Rattle.std.specs.Prelude.{Result, Ok, Err}
+use Rattle.refusal.specs.declared.Refusal.{Refusal}
 use Rattle.refusal.specs.Table.{refusal_of}
 use Rattle.hello.specs.Places.{part}
 use Rattle.hello.specs.declared.parts.Extensions.{Extensions}
 use Rattle.hello.specs.declared.client.ClientHello.{ClientHello}
-use Rattle.hello.specs.declared.client.ClientRead.{ClientRead}
-use Rattle.hello.specs.declared.client.ClientRead.TheVariants as client
 use Rattle.hello.specs.declared.server.ServerHello.{ServerHello}
-use Rattle.hello.specs.declared.server.ServerRead.{ServerRead}
-use Rattle.hello.specs.declared.server.ServerRead.TheVariants as server
 use Rattle.gateway.specs.declared.hellos.ClientReading.{ClientReading}
 use Rattle.gateway.specs.declared.hellos.ServerReading.{ServerReading}
 
@@ -32,10 +30,10 @@ abbrev pub no_server_hello : ServerHello
 no_server_hello =
     record { version = 0; random = part 0 0; identifier = part 0 0; suite = 0; compression = 0; extensions = no_extensions }
 
-unfoldable pub client_reading : ClientRead → ClientReading
-client_reading (client.Read hello) = record { refusal = refusal_of 0; hello = hello }
-client_reading (client.Refused r) = record { refusal = r; hello = no_client_hello }
+unfoldable pub client_reading : Result ClientHello Refusal → ClientReading
+client_reading (Ok hello) = record { refusal = refusal_of 0; hello = hello }
+client_reading (Err r) = record { refusal = r; hello = no_client_hello }
 
-unfoldable pub server_reading : ServerRead → ServerReading
-server_reading (server.Read hello) = record { refusal = refusal_of 0; hello = hello }
-server_reading (server.Refused r) = record { refusal = r; hello = no_server_hello }
+unfoldable pub server_reading : Result ServerHello Refusal → ServerReading
+server_reading (Ok hello) = record { refusal = refusal_of 0; hello = hello }
+server_reading (Err r) = record { refusal = r; hello = no_server_hello }

@@ -1,70 +1,33 @@
 // Completion: both Finished are taken, and the connection record is written.
 ghost use Rattle.std.specs.Prelude.{◌≡◌};
-ghost use Rattle.seqs.specs.Flag.{yes, bit};
-ghost use Rattle.gateway.specs.Completion.{completed_of, Completes};
+ghost use Rattle.gateway.specs.Completion.{completed_of, left_by, Completes};
 
 use decision::{Connection, Decision};
 use message_log::{Finished, Log};
-use refusal::Refusal;
+use refusal::{Reason, Refusal, refuse};
 
-#[repr(C)]
-#[derive(Clone, Copy)]
-pub struct Completed {
-    pub refusal: Refusal,
-    pub connection: Connection,
-}
-
-fn flag(x: u8) -> u8
-    ensures { result ≡ bit (yes x) }
+// The record that is written, by what the log says of its Finished, and the decision.
+fn completed(finished: Finished, decision: Decision) -> Result<Connection, Reason>
+    ensures { (was : Connection) → left_by was result ≡ completed_of was finished decision }
 {
-    if x == 0 { 0 } else { 1 }
-}
-
-// What the log says of its Finished, and the decision: 0 and the new record, or 7 and the record as it was.
-fn agreed(connection: Connection, finished: Finished, decision: Decision) -> Completed
-    ensures { result ≡ completed_of connection finished decision }
-{
-    if finished.complete == 0 {
-        return Completed {
-            refusal: refusal::refuse(7),
-            connection,
-        };
+    if finished.complete == 0 || decision.refusal.number != 0 {
+        return Err(Reason::OutOfTurn);
     }
-    if decision.refusal.number != 0 {
-        return Completed {
-            refusal: refusal::refuse(7),
-            connection,
-        };
+    let resumed = finished.resumed != 0;
+    let resumes = decision.resumes != 0;
+    if resumed != resumes {
+        return Err(Reason::OutOfTurn);
     }
-    if flag(finished.resumed) != flag(decision.resumes) {
-        return Completed {
-            refusal: refusal::refuse(7),
-            connection,
-        };
-    }
-    let client = finished.client;
-    let server = finished.server;
-    let written = Connection {
+    Ok(Connection {
         completed: 1,
-        indication: flag(decision.indication),
-        barred: flag(decision.bar),
-        client,
-        server,
-    };
-    Completed {
-        refusal: refusal::refuse(0),
-        connection: written,
-    }
+        indication: u8::from(decision.indication != 0),
+        barred: u8::from(decision.bar != 0),
+        client: finished.client,
+        server: finished.server,
+    })
 }
 
-// By value.
-fn complete(connection: Connection, log: Log, decision: Decision) -> Completed
-    ensures { Completes connection log decision result.refusal result.connection }
-{
-    agreed(connection, log.finished(), decision)
-}
-
-// The connection record is lent: it is read, `complete` is asked, and the record is written back.
+// The connection record is lent: it is written, or stays as it was.
 #[unsafe(no_mangle)]
 pub extern "C" fn axle_complete(
     connection: &mut Connection,
@@ -73,7 +36,11 @@ pub extern "C" fn axle_complete(
 ) -> Refusal
     ensures { Completes connection.old log decision result connection.new }
 {
-    let r = complete(*connection, log, decision);
-    *connection = r.connection;
-    r.refusal
+    match completed(log.finished(), decision) {
+        Ok(written) => {
+            *connection = written;
+            refuse(0)
+        }
+        Err(reason) => Refusal::from(reason),
+    }
 }
