@@ -1,1 +1,4 @@
 pub mod Elements
+pub mod Lengths
+pub mod Taken
+pub mod Laid

@@ -4,3 +4,4 @@ pub mod Constants32
 pub mod Constants64
 pub mod Kinds
 pub mod Layout
+pub mod Takes

@@ -1,9 +1,9 @@
 // The functions of FIPS 180-4 on words of 32 and of 64 bits.
-ghost use Rattle.std.specs.Prelude.{◌≡◌, ℕ, ◌+◌, ◌*◌, ◌<◌, ◌≤◌, length, take, drop, get_or};
-ghost use Rattle.seqs.specs.Words.{big, of_bytes};
+ghost use Rattle.std.specs.Prelude.{◌≡◌, ℕ, ◌+◌, ◌-◌, ◌*◌, ◌<◌, ◌≤◌, ◌++◌, length, take, drop, get_or};
+ghost use Rattle.seqs.specs.Words.{big, in_bytes, of_bytes};
 ghost use Rattle.seqs.specs.Operations.{add, ch, maj};
 ghost use Rattle.seqs.specs.Sha2.{Sha2, next};
-ghost use Rattle.fips180.specs.Kinds.{words32, words64};
+ghost use Rattle.fips180.specs.Kinds.{words32, words64, size, field};
 ghost use Rattle.std.specs.Mem.{type_size};
 ghost use Rattle.std.proofs.Common.{rules};
 
@@ -48,6 +48,19 @@ pub trait Word: Copy {
     fn turns() -> usize
         ensures { (16 * result ≡ kind.more + 16) × (result ≤ 5) };
 
+    // How many bytes a block has.
+    fn block() -> usize
+        ensures { result ≡ size kind };
+
+    // How many bytes of the last block are for the message's length.
+    fn field() -> usize
+        ensures { result ≡ field kind };
+
+    // The length in bits, in the last bytes of the block.
+    fn put_length(block: &mut [u8], x: u64)
+        requires { length block.old ≡ size kind }
+        ensures { block.new ≡ take (size kind - field kind) block.old ++ in_bytes big (field kind) x };
+
     // Word t behind index at.
     fn read(b: &[u8], at: usize, t: usize) -> Self
         requires { at + kind.bytes * t + kind.bytes ≤ length b.now }
@@ -55,6 +68,9 @@ pub trait Word: Copy {
 
     // sixteen words fit into memory
     ghost small: { type_size Self.row ≤ 8 };
+
+    // the bytes of a word are few, and a block has room for the length behind a byte
+    ghost narrow: { (0 < kind.bytes) × (kind.bytes ≤ 8) };
 }
 
 impl Word for u32 {
@@ -63,6 +79,8 @@ impl Word for u32 {
     ghost number = { λ x. x };
 
     ghost small = { Prim.search rules };
+
+    ghost narrow = { Prim.search rules };
 
     fn add(self, y: u32) -> u32 {
         self.wrapping_add(y)
@@ -100,6 +118,18 @@ impl Word for u32 {
         4
     }
 
+    fn block() -> usize {
+        64
+    }
+
+    fn field() -> usize {
+        8
+    }
+
+    fn put_length(block: &mut [u8], x: u64) {
+        block[56..].copy_from_slice(&x.to_be_bytes());
+    }
+
     fn read(b: &[u8], at: usize, t: usize) -> u32 {
         let i = at + 4 * t;
         u32::from_be_bytes([b[i], b[i + 1], b[i + 2], b[i + 3]])
@@ -112,6 +142,8 @@ impl Word for u64 {
     ghost number = { λ x. x };
 
     ghost small = { Prim.search rules };
+
+    ghost narrow = { Prim.search rules };
 
     fn add(self, y: u64) -> u64 {
         self.wrapping_add(y)
@@ -147,6 +179,19 @@ impl Word for u64 {
 
     fn turns() -> usize {
         5
+    }
+
+    fn block() -> usize {
+        128
+    }
+
+    fn field() -> usize {
+        16
+    }
+
+    fn put_length(block: &mut [u8], x: u64) {
+        block[112..120].fill(0);
+        block[120..].copy_from_slice(&x.to_be_bytes());
     }
 
     fn read(b: &[u8], at: usize, t: usize) -> u64 {

@@ -32,7 +32,7 @@ pub two_in_sixteen : (x : ℕ) → x < 65536 → in_bytes big 16 x ≡ replicate
 two_in_sixteen x h = sixteen_bytes x (omega arith) ∙ ap (λ (l : List ℕ). replicate 8 0 ++ l) (small x h)
 
 -- a piece goes behind what is laid out
-behind : (p s : List ℕ) (m at : ℕ) → length p ≡ at → paste (p ++ replicate m 0) at s (length s) ≡ (p ++ s) ++ replicate (m - length s) 0
+pub behind : (p s : List ℕ) (m at : ℕ) → length p ≡ at → paste (p ++ replicate m 0) at s (length s) ≡ (p ++ s) ++ replicate (m - length s) 0
 behind p s m at e =
     ap₂ (λ (x y : List ℕ). (x ++ y) ++ drop (at + length s) (p ++ replicate m 0)) (take_at p (replicate m 0) at e) (take-length s)
     ∙ ap (λ (i : ℕ). (p ++ s) ++ drop (i + length s) (p ++ replicate m 0)) (sym e)

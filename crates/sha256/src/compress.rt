@@ -1,10 +1,9 @@
-// The hash value as C has it, and a block into it.
-ghost use Rattle.std.specs.Prelude.{◌≡◌, ◌+◌, ◌-◌, ◌*◌, ◌/◌, ◌≤◌, length, take, drop};
+// The hash value as C has it.
+ghost use Rattle.std.specs.Prelude.{◌≡◌};
 ghost use Rattle.fips180.specs.Layout.{value_of as value_of_words};
 ghost use Rattle.sha256.specs.Layout.{value_of};
 ghost use Rattle.sha256.specs.Constants.{initial};
-ghost use Rattle.sha256.specs.Compress.{step, output};
-ghost use Rattle.sha256.specs.Sha256.{hashed};
+ghost use Rattle.sha256.specs.Compress.{output};
 
 use crate::words::bytes;
 use fips180::{Chain, Words};
@@ -73,29 +72,6 @@ impl Chain for State {
 }
 
 impl State {
-    // The block that starts at index at.
-    pub(crate) fn compress(self, b: &[u8], at: usize) -> State
-        requires { at + 64 ≤ length b.now }
-        ensures { value_of result ≡ step (value_of self) (take 64 (drop at b.now)) }
-    {
-        State::of(self.words().compress(b, at))
-    }
-
-    // Every whole block from index from on, each counted where it is worked.
-    pub(crate) fn blocks(self, b: &[u8], from: usize, worked: &mut usize) -> State
-        requires { (from ≤ length b.now) × (worked.old ≤ 1) }
-        ensures { (value_of result ≡ hashed (value_of self) ((length b.now - from) / 64) (drop from b.now)) × (worked.new ≡ worked.old + (length b.now - from) / 64) }
-    {
-        let mut v = self;
-        let mut at = from;
-        while 64 <= b.len() - at {
-            v = v.compress(b, at);
-            *worked += 1;
-            at += 64;
-        }
-        v
-    }
-
     pub(crate) fn output(self) -> [u8; 32]
         ensures { result ≡ output (value_of self) }
     {

@@ -1,4 +1,3 @@
-pub mod ByteWords
 pub mod Alone
 pub mod Counting
 pub mod Further

@@ -1,9 +1,9 @@
-// The hash value as C has it, and a block into it.
-ghost use Rattle.std.specs.Prelude.{◌≡◌, ◌+◌, ◌≤◌, length, take, drop};
+// The hash value as C has it.
+ghost use Rattle.std.specs.Prelude.{◌≡◌};
 ghost use Rattle.fips180.specs.Layout.{value_of as value_of_words};
 ghost use Rattle.sha384.specs.Layout.{value_of};
 ghost use Rattle.sha384.specs.Constants.{initial};
-ghost use Rattle.sha384.specs.Compress.{step, output};
+ghost use Rattle.sha384.specs.Compress.{output};
 
 use crate::words::bytes;
 use fips180::{Chain, Words};
@@ -72,14 +72,6 @@ impl Chain for State384 {
 }
 
 impl State384 {
-    // The block that starts at index at.
-    pub(crate) fn compress(self, b: &[u8], at: usize) -> State384
-        requires { at + 128 ≤ length b.now }
-        ensures { value_of result ≡ step (value_of self) (take 128 (drop at b.now)) }
-    {
-        State384::of(self.words().compress(b, at))
-    }
-
     // The first six of the eight words.
     pub(crate) fn output(self) -> [u8; 48]
         ensures { result ≡ output (value_of self) }

@@ -2,6 +2,8 @@
 -- Assumes nothing.
 use Rattle.std.proofs.Common.{◌≤◌, [], length, sym, ap, ◌∙◌, arith}
 use Rattle.refusal.specs.Table.{refusal_of}
+use Rattle.sha256.specs.Compress.{output}
+use Rattle.sha256.specs.Sha256.{sha256}
 use Rattle.sha256.specs.Running.{most}
 use Rattle.sha256.specs.Laws.{number_over, number_within}
 use Rattle.sha256.proofs.OneShot.{digested, undigested}
@@ -13,8 +15,9 @@ returns-then-message-gt-MOST c =
     undigested m c.refuse-refusal.result (c.refuse-refusal.ensures ∙ ap refusal_of (sym (number_over 0 (length m) (omega arith)))) (omega arith)
 
 pub returns : goal.returns
+unfolding sha256
 returns c =
     let m = c.args.message.now in
     let w : length m ≤ most = omega arith in
-    digested m c.refuse-refusal-2.result (c.refuse-refusal-2.ensures ∙ ap refusal_of (sym (number_within 0 (length m) (omega arith)))) c.digest-digest.result w
-    (c.digest-digest.ensures m (c.take.ensures.runs [] c.fresh-h.ensures (omega arith)))
+    digested m c.refuse-refusal-2.result (c.refuse-refusal-2.ensures ∙ ap refusal_of (sym (number_within 0 (length m) (omega arith)))) c.output-digest.result w
+    (c.output-digest.ensures ∙ ap output c.whole-state.ensures)

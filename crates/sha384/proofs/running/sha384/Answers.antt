@@ -2,6 +2,8 @@
 -- Assumes nothing.
 use Rattle.std.proofs.Common.{◌≤◌, length, sym, ap, ◌∙◌, arith}
 use Rattle.refusal.specs.Table.{refusal_of}
+use Rattle.sha384.specs.Compress.{output}
+use Rattle.sha384.specs.Sha384.{sha384}
 use Rattle.sha384.specs.Running.{most}
 use Rattle.sha384.specs.Laws.{number_over, number_within}
 use Rattle.sha384.proofs.OneShot.{digested, undigested}
@@ -13,7 +15,9 @@ returns-then-message-gt-MOST c =
     undigested m c.refuse-refusal.result (c.refuse-refusal.ensures ∙ ap refusal_of (sym (number_over 0 (length m) (omega arith)))) (omega arith)
 
 pub returns : goal.returns
+unfolding sha384
 returns c =
     let m = c.args.message.now in
     let w : length m ≤ most = omega arith in
-    digested m c.refuse-refusal-2.result (c.refuse-refusal-2.ensures ∙ ap refusal_of (sym (number_within 0 (length m) (omega arith)))) c.whole-digest.result w c.whole-digest.ensures
+    digested m c.refuse-refusal-2.result (c.refuse-refusal-2.ensures ∙ ap refusal_of (sym (number_within 0 (length m) (omega arith)))) c.output-digest.result w
+    (c.output-digest.ensures ∙ ap output c.whole-state.ensures)

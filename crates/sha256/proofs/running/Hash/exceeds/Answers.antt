@@ -1,18 +1,8 @@
--- Too many by themselves, or with those that were taken.
+-- The bound of every hash.
 -- Assumes nothing.
-use Rattle.std.proofs.Common.{◌+◌, ◌≤◌, sym, arith, lt-ltb}
-use Rattle.sha256.specs.Running.{taken, most}
-use Rattle.seqs.proofs.Room.{room}
+use Rattle.sha256.specs.Running.{taken}
 use Rattle.sha256.proofs.running.Hash.exceeds.Goals as goal
-
-pub returns-then-self-gt-MOST : goal.returns-then-self-gt-MOST
-unfolding taken
-returns-then-self-gt-MOST c = sym (lt-ltb most (c.args.self.length + c.args.n) (omega arith))
 
 pub returns : goal.returns
 unfolding taken
-returns c =
-    let s = c.args.self.length in
-    let n = c.args.n in
-    let w : s ≤ most = omega arith in
-    room most s n w
+returns c = c.exceeds.ensures

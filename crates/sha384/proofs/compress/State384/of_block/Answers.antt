@@ -1,14 +1,12 @@
 -- One block, from the initial hash value.
 -- Assumes nothing.
-use Rattle.std.proofs.Common.{◌≡◌, length, ◌∙◌, ap₂, arith, take_all, rules}
-use Rattle.sha384.specs.Compress.{step}
+use Rattle.std.proofs.Common.{◌≡◌, length, rules}
 use Rattle.sha384.proofs.compress.State384.of_block.Goals as goal
 
 pub returns : goal.returns
 returns c =
-    let b = c.args.b in
-    let n : length b ≡ 128 = search rules in
+    let n : length c.args.b ≡ 128 = search rules in
     record {
       whole = n;
-      value = c.compress.ensures ∙ ap₂ step c.initial-s.ensures (take_all 128 b (omega arith));
+      value = c.begin.ensures;
     }

@@ -1,0 +1,99 @@
+// A message in pieces: the blocks that a piece completes, and the padding behind the last. The hash value, the tail and the count of what
+// was taken lie in structs of C, and are lent one by one.
+ghost use Rattle.std.specs.Prelude.{◌≡◌, ℕ, ◌+◌, ◌-◌, ◌/◌, ◌≤◌, List, length, drop, replicate, nat_lt};
+ghost use Rattle.seqs.specs.Blocks.{after};
+ghost use Rattle.seqs.specs.Sha2.{step};
+ghost use Rattle.fips180.specs.Kinds.{size};
+ghost use Rattle.fips180.specs.Layout.{value_of};
+ghost use Rattle.fips180.specs.Takes.{HashesTo, HoldsBytes, TakesBytes, most};
+
+use crate::bytes::{lay, seal};
+use crate::chain::Chain;
+use crate::word::Word;
+use crate::words::Words;
+
+// The most bytes that one hash takes from fresh.
+pub const MOST: u64 = 1048576;
+
+// Every whole block from index from on, each counted where it is worked.
+fn blocks<W: Word>(v: Words<W>, b: &[u8], from: usize, worked: &mut usize) -> Words<W>
+    requires { (from ≤ length b.now) × (worked.old ≤ 1) }
+    ensures { (value_of W.number result ≡ after (size W.kind) (step W.kind) (value_of W.number v) ((length b.now - from) / size W.kind) (drop from b.now)) × (worked.new ≡ worked.old + (length b.now - from) / size W.kind) }
+{
+    let mut v = v;
+    let size = W::block();
+    for i in 0..(b.len() - from) / size {
+        v = v.compress(b, from + size * i);
+        *worked += 1;
+    }
+    v
+}
+
+// More bytes, behind those that were taken: the first block is completed in the tail where some wait there, the others are compressed where
+// they lie, and only what is left over is copied.
+pub fn take<S: Chain>(state: &mut S, tail: &mut [u8], taken: u64, bytes: &[u8], worked: &mut usize)
+    requires { length tail.old ≡ size S.Word.kind }
+    ensures { TakesBytes S.Word.kind S.first (S.value state.old) tail.old taken bytes.now (S.value state.new) tail.new worked.new }
+{
+    let size = S::Word::block();
+    let at = (taken % size as u64) as usize;
+    let n = bytes.len();
+    if n < size - at {
+        *worked = 0;
+        lay(tail, at, bytes);
+        return;
+    }
+    let mut v = state.words();
+    let mut from = 0;
+    let mut count = 0;
+    if 0 < at {
+        from = size - at;
+        lay(tail, at, &bytes[..from]);
+        v = v.compress(tail, 0);
+        count = 1;
+    }
+    *state = S::of(blocks(v, bytes, from, &mut count));
+    *worked = count;
+    let left = (n - from) % size;
+    tail.fill(0);
+    lay(tail, 0, &bytes[n - left..]);
+}
+
+// The hash value behind the padding, which is laid into the last block, or the last two.
+pub fn end<S: Chain>(state: S, block: &mut [u8], taken: u64) -> S
+    requires { (length block.old ≡ size S.Word.kind) × (taken ≤ most) }
+    ensures { (m : List ℕ) → HoldsBytes S.Word.kind S.first (S.value state) block.old taken m → HashesTo S.Word.kind S.first m (S.value result) }
+{
+    let size = S::Word::block();
+    let at = (taken % size as u64) as usize;
+    let last = size - S::Word::field();
+    let mut v = state.words();
+    seal(block, at);
+    if last <= at {
+        v = v.compress(block, 0);
+        block.fill(0);
+    }
+    S::Word::put_length(block, taken * 8);
+    S::of(v.compress(block, 0))
+}
+
+// The hash value of a whole message, whose last block is laid out where the caller lends zeros.
+pub fn whole<S: Chain>(message: &[u8], block: &mut [u8]) -> S
+    requires { (block.old ≡ replicate (size S.Word.kind) 0) × (length message.now ≤ most) }
+    ensures { HashesTo S.Word.kind S.first message.now (S.value result) }
+{
+    let mut state = S::initial();
+    let mut worked = 0;
+    take(&mut state, block, 0, message, &mut worked);
+    end(state, block, message.len() as u64)
+}
+
+// Would n bytes more be too many?
+pub fn exceeds(taken: u64, n: u64) -> bool
+    ensures { result ≡ nat_lt most (taken + n) }
+{
+    if MOST < taken {
+        return true;
+    }
+    MOST - taken < n
+}
