@@ -93,7 +93,7 @@ module _ (log : Log) (bytes : List ℕ) (t : Turn) (left : ℕ) (hash : Transcri
           }
 
 -- as the code has it: the hashes in one call, with what is carried behind the bytes
-module _ (log : Log) (bytes : List ℕ) (t : Turn) (left choice : ℕ) (y : CarriedBehind log t left choice) (next : Transcript) (worked : Algorithm → ℕ)
+module _ (log : Log) (bytes : List ℕ) (t : Turn) (left : ℕ) (choice : Choice) (y : CarriedBehind log t left choice) (next : Transcript) (worked : Algorithm → ℕ)
     (x : EntersTo log.hash bytes choice next worked) where
   abbrev With : ℕ → List ℕ → ℕ → ℕ → ℕ → Type 0
   With place session kind then told =

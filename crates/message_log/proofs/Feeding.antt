@@ -38,7 +38,7 @@ use Rattle.message_log.specs.Promise.{Feeds, blocks_of}
 use Rattle.message_log.specs.Steps.{none, InTurn, TurnOf, Entering, PartLeads, PartTurn, Entered}
 use Rattle.message_log.specs.declared.state.Log.{Log}
 use Rattle.message_log.specs.declared.state.Turn.{Turn}
-use Rattle.message_log.specs.declared.answers.Blocks.{Blocks}
+use Rattle.transcript.specs.declared.Blocks.{Blocks}
 use Rattle.message_log.proofs.Reasons.{for_number, refuses, length_at, done_at}
 use Rattle.message_log.proofs.Messages.{fine}
 use Rattle.message_log.proofs.Standing.{by_whole, far, carried, request_stands}

@@ -49,7 +49,7 @@ use Rattle.message_log.specs.Runs.Run.{done, next}
 use Rattle.message_log.specs.declared.state.Log.{Log}
 use Rattle.message_log.specs.declared.state.Turn.{Turn}
 use Rattle.message_log.specs.declared.order.Due.{Due}
-use Rattle.message_log.specs.declared.answers.Blocks.{Blocks}
+use Rattle.transcript.specs.declared.Blocks.{Blocks}
 use Rattle.message_log.specs.declared.answers.Fed.{Fed}
 use Rattle.message_log.proofs.Reasons.{length_at}
 use Rattle.message_log.proofs.Turns.{number_most, same_place, turned}

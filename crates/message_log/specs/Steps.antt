@@ -8,7 +8,7 @@ use Rattle.refusal.specs.declared.reason.Reason.{Reason}
 use Rattle.message.specs.Frame.{kind_of, body_of}
 use Rattle.transcript.specs.Choice.{Algorithm, Choice, algorithm_by, algorithm_of}
 use Rattle.transcript.specs.Choice.Choice.{unchosen, chosen}
-use Rattle.transcript.specs.Carries.{Carries, choice_number, choice_in, digest_of}
+use Rattle.transcript.specs.Carries.{Carries, choice_in, digest_of}
 use Rattle.transcript.specs.Promise.{Enters}
 use Rattle.transcript.specs.declared.Transcript.{Transcript}
 use Rattle.seqs.specs.Flag.{yes}
@@ -29,7 +29,7 @@ use Rattle.message_log.specs.declared.order.Due.{Due}
 use Rattle.message_log.specs.declared.state.Log.{Log}
 use Rattle.message_log.specs.declared.state.Turn.{Turn}
 use Rattle.message_log.specs.declared.answers.Accepted.{Accepted}
-use Rattle.message_log.specs.declared.answers.Blocks.{Blocks}
+use Rattle.transcript.specs.declared.Blocks.{Blocks}
 use Rattle.message_log.specs.declared.answers.Fed.{Fed}
 use Rattle.message_log.specs.declared.answers.Expected.{Expected}
 
@@ -102,8 +102,8 @@ pub record PartTurn (log : Log) (rest : List ℕ) (k : ℕ) (tell : Told) (t : R
   pub leads : IfOk t (PartLeads log rest k tell)
 
 -- what is carried behind bytes of a message: by a ServerHello that is whole its hash is chosen
-pub record CarriedBehind (log : Log) (t : Turn) (left r : ℕ) : Type 0 where
-  pub chosen : left ≡ 0 → t.kind ≡ 2 → r ≡ choice_number (chosen (algorithm_by (yes t.sha384)))
+pub record CarriedBehind (log : Log) (t : Turn) (left : ℕ) (r : Choice) : Type 0 where
+  pub chosen : left ≡ 0 → t.kind ≡ 2 → r ≡ chosen (algorithm_by (yes t.sha384))
   pub stays : (left ≡ 0 → t.kind ≡ 2 → ⊥) → r ≡ choice_in log.hash
 
 -- the log that bytes of a message have entered: left of it are still to come, or none and it is accepted; by a ServerHello that is accepted

@@ -5,13 +5,19 @@ ghost use Rattle.message_log.specs.Feed.{bad_allowance};
 ghost use Rattle.message_log.specs.Promise.{Feeds};
 ghost use Rattle.message_log.specs.Steps.{fed, PartTurn};
 
-use crate::answers::{Blocks, Fed, Told};
+use crate::answers::{Fed, Told};
 use crate::kind;
 use crate::state::{Log, Turn};
 use refusal::{Reason, Refusal, refuse};
+use transcript::Blocks;
 
 // The most blocks of one allowance.
 const MOST: usize = 256;
+
+const NONE: Blocks = Blocks {
+    sha256: 0,
+    sha384: 0,
+};
 
 impl Log {
     // As much of the rest as the allowance lets in; all of it, and the message is accepted. What is told counts with the first part of a
@@ -30,7 +36,7 @@ impl Log {
                 refusal: Refusal::from(reason),
                 log: self,
                 taken: 0,
-                blocks: Blocks::NONE,
+                blocks: NONE,
             },
         }
     }
@@ -45,7 +51,7 @@ impl Log {
         ensures { Feeds self.old rest.now allowance (told_of told) (fed result self.new) }
     {
         let Some(turn) = self.part(rest, allowance, told)? else {
-            return Ok((rest.len(), Blocks::NONE));
+            return Ok((rest.len(), NONE));
         };
         let n = self.hash.lets_in(allowance as u16, rest.len());
         let blocks = self.entered(&rest[..n], turn, (rest.len() - n) as u16);
@@ -53,12 +59,7 @@ impl Log {
     }
 
     // What is asked before a byte is taken. A first part is judged as the whole message that it begins; behind it only how much is left.
-    fn part(
-        &self,
-        rest: &[u8],
-        allowance: usize,
-        told: Told,
-    ) -> Result<Option<Turn>, Reason>
+    fn part(&self, rest: &[u8], allowance: usize, told: Told) -> Result<Option<Turn>, Reason>
         ensures { PartTurn self.now rest.now allowance (told_of told) result }
     {
         if !allowed(allowance) {

@@ -9,7 +9,7 @@ ghost use Rattle.message_log.specs.Places.{IsDueTo};
 ghost use Rattle.message_log.specs.Promise.{Finishes, Expects};
 ghost use Rattle.message_log.specs.Steps.{answered, expected_by, Asks, Takes};
 
-use crate::answers::{Accepted, Blocks, Expected};
+use crate::answers::{Accepted, Expected};
 use crate::order::{Due, Place};
 use crate::state::Log;
 use crate::{kind, shape};
@@ -47,10 +47,8 @@ impl Log {
     fn taking(&mut self, message: &[u8], value: [u8; 12], due: Due)
         ensures { Takes self.old message.now value due self.new }
     {
-        let choice = self.hash.choice();
-        let mut blocks = Blocks::NONE;
-        self.hash
-            .take(message, choice, &mut blocks.sha256, &mut blocks.sha384);
+        let chosen = self.hash.chosen();
+        self.hash.take(message, chosen);
         self.place = u8::from(due.next);
         if due.server {
             self.server = value;

@@ -86,11 +86,8 @@ impl Place {
     {
         match (self, kind) {
             (Place::Beginning, kind::CLIENT_HELLO) => Some(Place::ClientHello),
-            (Place::ClientHello, kind::SERVER_HELLO) => Some(if resumes {
-                Place::ResumingHello
-            } else {
-                Place::ServerHello
-            }),
+            (Place::ClientHello, kind::SERVER_HELLO) if resumes => Some(Place::ResumingHello),
+            (Place::ClientHello, kind::SERVER_HELLO) => Some(Place::ServerHello),
             (Place::ServerHello, kind::CERTIFICATE) => Some(Place::ServerCertificate),
             (Place::ServerHello | Place::ServerCertificate, kind::SERVER_KEY_EXCHANGE) => {
                 Some(Place::ServerKeyExchange)

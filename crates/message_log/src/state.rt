@@ -2,6 +2,8 @@
 ghost use Rattle.std.specs.Prelude.{◌≡◌, not, ◌&&◌, List, ℕ, ◌≤◌};
 ghost use Rattle.transcript.specs.Choice.{Choice, algorithm_of};
 ghost use Rattle.transcript.specs.Carries.{Carries, digest_of};
+ghost use Rattle.transcript.specs.Told.{told_in};
+ghost use Rattle.transcript.specs.Promise.{worked};
 ghost use Rattle.message_log.specs.Told.{told_of};
 ghost use Rattle.message_log.specs.Suite.{width_of, in_field};
 ghost use Rattle.message_log.specs.History.{exchanged};
@@ -9,14 +11,14 @@ ghost use Rattle.message_log.specs.History.History.{fresh};
 ghost use Rattle.message_log.specs.Standing.{Standing, history_of, between};
 ghost use Rattle.message_log.specs.Standing.Standing.{whole};
 ghost use Rattle.message_log.specs.Stands.{Stands};
-ghost use Rattle.message_log.specs.Promise.{Accepts, Hashes, blocks_of};
+ghost use Rattle.message_log.specs.Promise.{Accepts, Hashes};
 ghost use Rattle.message_log.specs.Steps.{answered, TurnOf, CarriedBehind, Entered};
 
-use crate::answers::{Accepted, Blocks, SessionHash, Told};
+use crate::answers::{Accepted, SessionHash, Told};
 use crate::order::Place;
 use crate::{kind, shape};
 use refusal::{Reason, Refusal, refuse};
-use transcript::Transcript;
+use transcript::{Algorithm, Blocks, Transcript};
 
 // A message that is in turn, as a log keeps it between parts: its type, the number of the place that it leads to, and the hash that was
 // told with it: 1 for SHA-384.
@@ -107,24 +109,22 @@ impl Log {
     }
 
     // What is carried behind bytes of a message: a ServerHello that is whole chooses the hash.
-    fn carried(&self, turn: Turn, left: u16) -> u8
-        ensures { CarriedBehind self.now turn left result }
+    fn carried(&self, turn: Turn, left: u16) -> Option<Algorithm>
+        ensures { CarriedBehind self.now turn left (told_in result) }
     {
         if left == 0 && turn.kind == kind::SERVER_HELLO {
-            return Transcript::told(turn.sha384 != 0);
+            return Some(Algorithm::from(turn.sha384 != 0));
         }
-        self.hash.choice()
+        self.hash.chosen()
     }
 
     // These bytes of a message in turn enter the log where it lies, and how many blocks they worked: left bytes are still to come, or none,
     // and the message is accepted.
     pub(crate) fn entered(&mut self, bytes: &[u8], turn: Turn, left: u16) -> Blocks
-        ensures { Entered self.old bytes.now turn left self.new (blocks_of result) }
+        ensures { Entered self.old bytes.now turn left self.new (worked result) }
     {
-        let choice = self.carried(turn, left);
-        let mut blocks = Blocks::NONE;
-        self.hash
-            .take(bytes, choice, &mut blocks.sha256, &mut blocks.sha384);
+        let told = self.carried(turn, left);
+        let blocks = self.hash.take(bytes, told);
         self.left = left;
         if left != 0 {
             self.kind = turn.kind;
@@ -137,7 +137,7 @@ impl Log {
         self.sha384 = 0;
         self.place = turn.place;
         if turn.kind == kind::CLIENT_KEY_EXCHANGE {
-            let session = digest(self.hash);
+            let session = digest(&self.hash);
             self.session = session;
         }
         blocks
@@ -156,7 +156,7 @@ impl Log {
         let hash = self.session;
         SessionHash {
             refusal: refuse(0),
-            length: width(self.hash),
+            length: width(&self.hash),
             hash,
         }
     }
@@ -165,16 +165,13 @@ impl Log {
     fn exchanged(&self) -> bool
         ensures { (s : Standing) → Stands self.now s → result ≡ (not (between s) && exchanged (history_of s)) }
     {
-        if self.left != 0 {
-            return false;
-        }
-        matches!(Place::try_from(self.place), Ok(place) if place.exchanged())
+        self.left == 0 && matches!(Place::try_from(self.place), Ok(place) if place.exchanged())
     }
 }
 
 // The digest of the suite's hash, with zeros behind it.
-fn digest(hash: Transcript) -> [u8; 48]
-    ensures { (c : Choice) (m : List ℕ) → Carries hash c m → result ≡ in_field (digest_of (algorithm_of c) m) }
+fn digest(hash: &Transcript) -> [u8; 48]
+    ensures { (c : Choice) (m : List ℕ) → Carries hash.now c m → result ≡ in_field (digest_of (algorithm_of c) m) }
 {
     if hash.is_sha384() {
         return hash.digest384();
@@ -185,8 +182,8 @@ fn digest(hash: Transcript) -> [u8; 48]
 }
 
 // How many bytes it has.
-fn width(carried: Transcript) -> u8
-    ensures { (result ≤ 48) × ((c : Choice) (m : List ℕ) → Carries carried c m → result ≡ width_of (algorithm_of c)) }
+fn width(carried: &Transcript) -> u8
+    ensures { (result ≤ 48) × ((c : Choice) (m : List ℕ) → Carries carried.now c m → result ≡ width_of (algorithm_of c)) }
 {
     if carried.is_sha384() { 48 } else { 32 }
 }

@@ -5,4 +5,4 @@ use Rattle.message_log.proofs.state.Log.entered.Goals as goal
 
 pub returns-else-turn-eq-CLIENT_KEY_EXCHANGE : goal.returns-else-turn-eq-CLIENT_KEY_EXCHANGE
 returns-else-turn-eq-CLIENT_KEY_EXCHANGE c =
-    other_entered _ _ _ _ _ c.carried-choice.ensures c.take.new.self _ c.take.ensures c.if-left-ne0.false c.if-turn-eq-CLIENT_KEY_EXCHANGE.false
+    other_entered _ _ _ _ _ c.carried-told.ensures c.take-blocks.new.self _ c.take-blocks.ensures c.if-left-ne0.false c.if-turn-eq-CLIENT_KEY_EXCHANGE.false
