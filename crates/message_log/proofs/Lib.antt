@@ -1,5 +1,7 @@
+pub mod Reasons
 pub mod Turns
 pub mod Places
+pub mod Held
 pub mod Messages
 pub mod Chosen
 pub mod Fields
