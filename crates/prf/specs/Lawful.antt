@@ -1,6 +1,5 @@
 -- Both hashes are lawful.
 -- Assumes nothing.
-use Rattle.std.specs.Prelude.{◌≤◌}
 use Rattle.std.proofs.Common.{arith}
 use Rattle.sha256.specs.Laws.{length-sha256, bytes_sha256}
 use Rattle.sha384.specs.Laws.{length-sha384, bytes_sha384}

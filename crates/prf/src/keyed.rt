@@ -34,37 +34,29 @@ pub(crate) struct Keyed<const BLOCK: usize, const DIGEST: usize, H> {
 // The most bytes of a key, and of a message.
 const MOST: usize = 65536;
 
-// k with zeros after it, to a block.
-fn padded<const BLOCK: usize>(k: &[u8]) -> [u8; BLOCK]
-    requires { length k.now ≤ BLOCK }
-    ensures { result ≡ k.now ++ replicate (BLOCK - length k.now) 0 }
-{
-    let mut block = [0u8; BLOCK];
-    block[..k.len()].copy_from_slice(k);
-    block
-}
-
-// The key, or the digest of a key that is longer than a block.
+// The key, or the digest of a key that is longer than a block, and zeros after it.
 fn key_block<const BLOCK: usize, const DIGEST: usize, H: Begun<BLOCK, DIGEST>>(
     key: &[u8],
 ) -> [u8; BLOCK]
     requires { length key.now ≤ 65536 }
     ensures { result ≡ key_block (hash_over H.hash BLOCK DIGEST) key.now }
 {
+    let mut block = [0u8; BLOCK];
     if BLOCK < key.len() {
-        return padded(&H::digest_of(key));
+        block[..DIGEST].copy_from_slice(&H::digest_of(key));
+    } else {
+        block[..key.len()].copy_from_slice(key);
     }
-    padded(key)
+    block
 }
 
-fn masked<const BLOCK: usize>(block: [u8; BLOCK], x: u8) -> [u8; BLOCK]
+fn masked<const BLOCK: usize>(mut block: [u8; BLOCK], x: u8) -> [u8; BLOCK]
     ensures { result ≡ mask x block.entry }
 {
-    let mut masked = block;
-    for v in &mut masked {
+    for v in &mut block {
         *v ^= x;
     }
-    masked
+    block
 }
 
 impl<const BLOCK: usize, const DIGEST: usize, H: Begun<BLOCK, DIGEST>> Keyed<BLOCK, DIGEST, H> {
@@ -83,14 +75,11 @@ impl<const BLOCK: usize, const DIGEST: usize, H: Begun<BLOCK, DIGEST>> Keyed<BLO
         requires { length a.now + (length b.now + length c.now) ≤ 65536 }
         ensures { (k : List ℕ) → KeyedBy (hash_over H.hash BLOCK DIGEST) H.begins self.now k → result ≡ hmac (hash_over H.hash BLOCK DIGEST) k (a.now ++ (b.now ++ c.now)) }
     {
-        let inner = self.inner;
-        let outer = self.outer;
+        // Two ways, each to its end: where the digests of both met in one place, the frame was larger.
         if a.len() + (b.len() + c.len()) <= H::SHORT {
-            let digest = inner.ended_short(a, b, c);
-            return outer.ended_by(digest);
+            return self.outer.ended_by(self.inner.ended_short(a, b, c));
         }
-        let digest = inner.ended(a, b, c);
-        outer.ended_by(digest)
+        self.outer.ended_by(self.inner.ended(a, b, c))
     }
 }
 

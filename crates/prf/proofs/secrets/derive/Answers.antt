@@ -16,4 +16,5 @@ pub returns : goal.returns
 returns g c =
     let a = c.args in
     let long : 48 ≤ length a.out.now = omega (arith, secret_within _ _ _ _ c.in_ok-lengths.ensures) in
-    derived _ a.out.now c.in_ok-lengths.ensures (ap (λ (r : List ℕ). r ++ drop 48 a.out.now) (rw (length-take-le 48 a.out.now long) at (c.expand.ensures a.pre_master.now c.by-keyed.ensures)))
+    derived _ a.out.now {exit = c.expand.new.out ++ drop 48 a.out.now} c.in_ok-lengths.ensures
+    (ap (λ (r : List ℕ). r ++ drop 48 a.out.now) (rw (length-take-le 48 a.out.now long) at (c.expand.ensures a.pre_master.now c.by-keyed.ensures)))
