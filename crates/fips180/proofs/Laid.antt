@@ -76,7 +76,7 @@ module _ (F : Sha2) (few : 0 < F.bytes) (first : Value) {s : Value} (k : List �
   pub in_two : {new : List ℕ} → size F - field F ≤ n → n + field F < 2 * size F → length b ≡ 2 * size F
       → new ≡ take (size F - field F) (take (length b - size F) (drop (size F) b)) ++ in_bytes big (field F) (8 * (size F + n))
       → HashesTo F first (k ++ d)
-          (step F (step F s (take (size F) (put_mid (size F) (length b - size F) b new))) (take (size F) (drop (size F) (put_mid (size F) (length b - size F) b new))))
+      (step F (step F s (take (size F) (put_mid (size F) (length b - size F) b new))) (take (size F) (drop (size F) (put_mid (size F) (length b - size F) b new))))
   in_two {new} h g m p =
       let z = 2 * size F - (n + 1 + field F) in
       let all : take (length b - size F) (drop (size F) b) ≡ drop (size F) b = take_all (length b - size F) (drop (size F) b) (simp length-drop (omega arith)) in

@@ -21,33 +21,35 @@ pub fn fits(room: usize, a: &[u8], b: &[u8], c: &[u8]) -> bool
     c.len() <= room - a.len() - b.len()
 }
 
-// The value that a hash has behind its first block.
-pub fn begin<S: Chain>(block: &[u8]) -> S
-    requires { length block.now ≡ size S.Word.kind }
-    ensures { S.value result ≡ step S.Word.kind S.first block.now }
+// The first block, behind fresh.
+pub fn begin<S: Chain>(state: &mut S, block: &[u8])
+    requires { (S.value state.old ≡ S.first) × (length block.now ≡ size S.Word.kind) }
+    ensures { S.value state.new ≡ step S.Word.kind S.first block.now }
 {
-    let s = S::initial();
-    S::of(s.words().compress(block, 0))
+    let mut v = state.words();
+    v.compress(block, 0);
+    *state = S::of(v);
 }
 
 // The hash value behind d, where one block has room for it and the padding.
-pub fn end_by<S: Chain>(state: S, block: &mut [u8], d: &[u8]) -> S
+pub fn end_by<S: Chain>(state: &mut S, block: &mut [u8], d: &[u8])
     requires { (block.old ≡ replicate (size S.Word.kind) 0) × (length d.now + field S.Word.kind < size S.Word.kind) }
-    ensures { (k : List ℕ) → length k ≡ size S.Word.kind → S.value state ≡ step S.Word.kind S.first k → HashesTo S.Word.kind S.first (k ++ d.now) (S.value result) }
+    ensures { (k : List ℕ) → length k ≡ size S.Word.kind → S.value state.old ≡ step S.Word.kind S.first k → HashesTo S.Word.kind S.first (k ++ d.now) (S.value state.new) }
 {
     let size = S::Word::block();
     let n = d.len();
     lay(block, 0, d);
     block[n] = 128;
-    let bits = 8 * (size + n);
-    S::Word::put_length(block, bits as u64);
-    S::of(state.words().compress(block, 0))
+    S::Word::put_length(block, (8 * (size + n)) as u64);
+    let mut v = state.words();
+    v.compress(block, 0);
+    *state = S::of(v);
 }
 
 // The hash value behind a, b and c, where two blocks have room for them and the padding. So it is with every HMAC of the PRF.
-pub fn end_short<S: Chain>(state: S, blocks: &mut [u8], a: &[u8], b: &[u8], c: &[u8]) -> S
+pub fn end_short<S: Chain>(state: &mut S, blocks: &mut [u8], a: &[u8], b: &[u8], c: &[u8])
     requires { (blocks.old ≡ replicate (2 * size S.Word.kind) 0) × (length a.now + (length b.now + length c.now) + field S.Word.kind < 2 * size S.Word.kind) }
-    ensures { (k : List ℕ) → length k ≡ size S.Word.kind → S.value state ≡ step S.Word.kind S.first k → HashesTo S.Word.kind S.first (k ++ (a.now ++ (b.now ++ c.now))) (S.value result) }
+    ensures { (k : List ℕ) → length k ≡ size S.Word.kind → S.value state.old ≡ step S.Word.kind S.first k → HashesTo S.Word.kind S.first (k ++ (a.now ++ (b.now ++ c.now))) (S.value state.new) }
 {
     let size = S::Word::block();
     let i = a.len();
@@ -58,11 +60,15 @@ pub fn end_short<S: Chain>(state: S, blocks: &mut [u8], a: &[u8], b: &[u8], c: &
     lay(blocks, j, c);
     blocks[n] = 128;
     let bits = 8 * (size + n);
+    let mut v = state.words();
     if n < size - S::Word::field() {
         S::Word::put_length(&mut blocks[..size], bits as u64);
-        return S::of(state.words().compress(blocks, 0));
+        v.compress(blocks, 0);
+        *state = S::of(v);
+        return;
     }
     S::Word::put_length(&mut blocks[size..], bits as u64);
-    let first = state.words().compress(blocks, 0);
-    S::of(first.compress(blocks, size))
+    v.compress(blocks, 0);
+    v.compress(blocks, size);
+    *state = S::of(v);
 }

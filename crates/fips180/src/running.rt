@@ -16,17 +16,15 @@ use crate::words::Words;
 pub const MOST: u64 = 1048576;
 
 // Every whole block from index from on, each counted where it is worked.
-fn blocks<W: Word>(v: Words<W>, b: &[u8], from: usize, worked: &mut usize) -> Words<W>
+fn blocks<W: Word>(v: &mut Words<W>, b: &[u8], from: usize, worked: &mut usize)
     requires { (from ≤ length b.now) × (worked.old ≤ 1) }
-    ensures { (value_of W.number result ≡ after (size W.kind) (step W.kind) (value_of W.number v) ((length b.now - from) / size W.kind) (drop from b.now)) × (worked.new ≡ worked.old + (length b.now - from) / size W.kind) }
+    ensures { (value_of W.number v.new ≡ after (size W.kind) (step W.kind) (value_of W.number v.old) ((length b.now - from) / size W.kind) (drop from b.now)) × (worked.new ≡ worked.old + (length b.now - from) / size W.kind) }
 {
-    let mut v = v;
     let size = W::block();
     for i in 0..(b.len() - from) / size {
-        v = v.compress(b, from + size * i);
+        v.compress(b, from + size * i);
         *worked += 1;
     }
-    v
 }
 
 // More bytes, behind those that were taken: the first block is completed in the tail where some wait there, the others are compressed where
@@ -49,10 +47,11 @@ pub fn take<S: Chain>(state: &mut S, tail: &mut [u8], taken: u64, bytes: &[u8], 
     if 0 < at {
         from = size - at;
         lay(tail, at, &bytes[..from]);
-        v = v.compress(tail, 0);
+        v.compress(tail, 0);
         count = 1;
     }
-    *state = S::of(blocks(v, bytes, from, &mut count));
+    blocks(&mut v, bytes, from, &mut count);
+    *state = S::of(v);
     *worked = count;
     let left = (n - from) % size;
     tail.fill(0);
@@ -60,9 +59,9 @@ pub fn take<S: Chain>(state: &mut S, tail: &mut [u8], taken: u64, bytes: &[u8], 
 }
 
 // The hash value behind the padding, which is laid into the last block, or the last two.
-pub fn end<S: Chain>(state: S, block: &mut [u8], taken: u64) -> S
+pub fn end<S: Chain>(state: &mut S, block: &mut [u8], taken: u64)
     requires { (length block.old ≡ size S.Word.kind) × (taken ≤ most) }
-    ensures { (m : List ℕ) → HoldsBytes S.Word.kind S.first (S.value state) block.old taken m → HashesTo S.Word.kind S.first m (S.value result) }
+    ensures { (m : List ℕ) → HoldsBytes S.Word.kind S.first (S.value state.old) block.old taken m → HashesTo S.Word.kind S.first m (S.value state.new) }
 {
     let size = S::Word::block();
     let at = (taken % size as u64) as usize;
@@ -70,22 +69,22 @@ pub fn end<S: Chain>(state: S, block: &mut [u8], taken: u64) -> S
     let mut v = state.words();
     seal(block, at);
     if last <= at {
-        v = v.compress(block, 0);
+        v.compress(block, 0);
         block.fill(0);
     }
     S::Word::put_length(block, taken * 8);
-    S::of(v.compress(block, 0))
+    v.compress(block, 0);
+    *state = S::of(v);
 }
 
-// The hash value of a whole message, whose last block is laid out where the caller lends zeros.
-pub fn whole<S: Chain>(message: &[u8], block: &mut [u8]) -> S
-    requires { (block.old ≡ replicate (size S.Word.kind) 0) × (length message.now ≤ most) }
-    ensures { HashesTo S.Word.kind S.first message.now (S.value result) }
+// The hash value of a whole message, from a fresh one and a block of zeros.
+pub fn whole<S: Chain>(state: &mut S, block: &mut [u8], message: &[u8])
+    requires { (S.value state.old ≡ S.first) × (block.old ≡ replicate (size S.Word.kind) 0) × (length message.now ≤ most) }
+    ensures { HashesTo S.Word.kind S.first message.now (S.value state.new) }
 {
-    let mut state = S::initial();
     let mut worked = 0;
-    take(&mut state, block, 0, message, &mut worked);
-    end(state, block, message.len() as u64)
+    take(state, block, 0, message, &mut worked);
+    end(state, block, message.len() as u64);
 }
 
 // Would n bytes more be too many?

@@ -126,21 +126,22 @@ impl<W: Word> Words<W> {
         v
     }
 
-    // The block that starts at index at.
-    pub fn compress(self, b: &[u8], at: usize) -> Words<W>
+    // The block that starts at index at. In place, as all that works blocks: a hash value by value has a place in every frame.
+    pub(crate) fn compress(&mut self, b: &[u8], at: usize)
         requires { at + 16 * W.kind.bytes ≤ length b.now }
-        ensures { value_of W.number result ≡ step W.kind (value_of W.number self) (take (16 * W.kind.bytes) (drop at b.now)) }
+        ensures { value_of W.number self.new ≡ step W.kind (value_of W.number self.old) (take (16 * W.kind.bytes) (drop at b.now)) }
     {
-        let v = self.all_rounds(load(b, at));
-        Words {
-            a: self.a.add(v.a),
-            b: self.b.add(v.b),
-            c: self.c.add(v.c),
-            d: self.d.add(v.d),
-            e: self.e.add(v.e),
-            f: self.f.add(v.f),
-            g: self.g.add(v.g),
-            h: self.h.add(v.h),
-        }
+        let s = *self;
+        let v = s.all_rounds(load(b, at));
+        *self = Words {
+            a: s.a.add(v.a),
+            b: s.b.add(v.b),
+            c: s.c.add(v.c),
+            d: s.d.add(v.d),
+            e: s.e.add(v.e),
+            f: s.f.add(v.f),
+            g: s.g.add(v.g),
+            h: s.h.add(v.h),
+        };
     }
 }

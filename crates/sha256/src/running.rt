@@ -96,14 +96,15 @@ impl Hash {
     }
 
     // The padding is laid into the last block, or the last two.
-    pub fn digest(self) -> [u8; 32]
+    pub fn digest(mut self) -> [u8; 32]
         ensures { (m : List ℕ) → Running self m → result ≡ sha256 m }
     {
         if MOST < self.length {
             return [0; 32];
         }
-        let mut block = self.tail;
-        fips180::end(self.state, &mut block, self.length).output()
+        let taken = self.length;
+        fips180::end(&mut self.state, &mut self.tail, taken);
+        self.state.output()
     }
 }
 
@@ -119,7 +120,8 @@ pub fn sha256(message: &[u8]) -> Digested
         };
     }
     let mut block = [0u8; 64];
-    let state: State = fips180::whole(message, &mut block);
+    let mut state = State::initial();
+    fips180::whole(&mut state, &mut block, message);
     let digest = state.output();
     let refusal = refusal::refuse(0);
     Digested { refusal, digest }

@@ -96,14 +96,15 @@ impl Hash384 {
     }
 
     // The padding is laid into the last block, or the last two.
-    pub fn digest(self) -> [u8; 48]
+    pub fn digest(mut self) -> [u8; 48]
         ensures { (m : List ℕ) → Running self m → result ≡ sha384 m }
     {
         if MOST < self.length {
             return [0; 48];
         }
-        let mut block = self.tail;
-        fips180::end(self.state, &mut block, self.length).output()
+        let taken = self.length;
+        fips180::end(&mut self.state, &mut self.tail, taken);
+        self.state.output()
     }
 }
 
@@ -119,7 +120,8 @@ pub fn sha384(message: &[u8]) -> Digested384
         };
     }
     let mut block = [0u8; 128];
-    let state: State384 = fips180::whole(message, &mut block);
+    let mut state = State384::initial();
+    fips180::whole(&mut state, &mut block, message);
     let digest = state.output();
     let refusal = refusal::refuse(0);
     Digested384 { refusal, digest }

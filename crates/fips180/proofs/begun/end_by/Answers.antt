@@ -28,5 +28,5 @@ returns g c k whole taken =
     let long : length c.put_length.new.block ≡ n = ap length laid ∙ length_last_block n (field F) big d (omega arith) in
     c.of.ensures
     ∙ c.compress.ensures
-    ∙ ap₂ (λ (v : Value) (b : List ℕ). step F v b) c.words.ensures (take_all n c.put_length.new.block (omega (arith, long)) ∙ laid)
+    ∙ ap₂ (λ (v : Value) (b : List ℕ). step F v b) c.words-v.ensures (take_all n c.put_length.new.block (omega (arith, long)) ∙ laid)
     ∙ sym (ends_by n (omega (arith, few.0)) (step F) g.S.Chain.first whole taken d (field F) big (omega arith))

@@ -22,7 +22,7 @@ returns-then-n-size g c k whole taken =
     let bs = c.block-size.ensures in
     c.of.ensures
     ∙ c.compress.ensures
-    ∙ ap₂ (λ (v : Value) (i : ℕ). step F v (take (size F) (c.put_length.new.block ++ drop i b))) c.words.ensures bs
+    ∙ ap₂ (λ (v : Value) (i : ℕ). step F v (take (size F) (c.put_length.new.block ++ drop i b))) c.words-v.ensures bs
     ∙ in_one F few g.S.Chain.first k whole taken d n m laid (omega (arith, bs, c.field.ensures, c.if-n-size.true))
     (c.put_length.ensures ∙ ap (λ (i : ℕ). take (size F - field F) (take i b) ++ in_bytes big (field F) (8 * (i + n))) bs)
 
@@ -41,7 +41,7 @@ returns g c k whole taken =
     let long : length b ≡ 2 * size F = simp length-set (omega arith) in
     let new = c.put_length-2.new.block in
     c.of-2.ensures
-    ∙ c.compress-2.ensures
-    ∙ ap₂ (λ (v : Value) (i : ℕ). step F v (take (size F) (drop i (put_mid i (length b - i) b new)))) (c.compress-first.ensures ∙ ap₂ (λ (v : Value) (i : ℕ). step F v (take (size F) (put_mid i (length b - i) b new))) c.words-2.ensures bs) bs
+    ∙ c.compress-3.ensures
+    ∙ ap₂ (λ (v : Value) (i : ℕ). step F v (take (size F) (drop i (put_mid i (length b - i) b new)))) (c.compress-2.ensures ∙ ap₂ (λ (v : Value) (i : ℕ). step F v (take (size F) (put_mid i (length b - i) b new))) c.words-v.ensures bs) bs
     ∙ in_two F few g.S.Chain.first k whole taken d n m laid (omega (arith, bs, c.field.ensures, c.if-n-size.false)) (omega (arith, c.requires.1)) long
     (c.put_length-2.ensures ∙ ap (λ (i : ℕ). take (size F - field F) (take (length b - i) (drop i b)) ++ in_bytes big (field F) (8 * (i + n))) bs)

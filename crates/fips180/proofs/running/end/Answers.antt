@@ -17,7 +17,7 @@ pub returns : goal.returns
 returns g c m h =
     let F = g.S.Word.Word.kind in
     let f = g.S.Word.Word.number in
-    let s = c.args.state in
+    let s = c.args.state.now in
     let t = c.args.block.now in
     let at = c.args.taken % size F in
     let few = g.met.S.Word.Word.narrow in
@@ -32,7 +32,7 @@ returns g c m h =
       | then-last-at w ↦
           let long : length c.seal.new.block ≡ size F = omega arith in
           ap₂ (λ (x : Value) (q : List ℕ). step F x (take (size F - field F) q ++ l))
-          (ap (value_of f) w.v-is ∙ w.compress-v.ensures ∙ ap₂ (step F) v (take_all (size F) c.seal.new.block (omega arith) ∙ b))
+          (ap (value_of f) w.v-is ∙ w.compress.ensures ∙ ap₂ (step F) v (take_all (size F) c.seal.new.block (omega arith) ∙ b))
           (w.block-is ∙ w.fill.ensures.after (λ y r. r) ∙ ap (λ (k : ℕ). replicate k 0) long)
           ∙ sym (finished_two (size F) (omega (arith, few.0)) (step F) g.S.Chain.first m h at e (field F) big (omega (arith, few.0)) (omega (arith, same, w.if-last-at.true)))
       | else-last-at w ↦
@@ -40,6 +40,6 @@ returns g c m h =
           ∙ sym (finished_one (size F) (omega (arith, few.0)) (step F) g.S.Chain.first m h at e (field F) big (omega (arith, few.0)) (omega (arith, same, w.if-last-at.false)))
     ] in
     c.of.ensures
-    ∙ c.compress.ensures
+    ∙ c.compress-2.ensures
     ∙ ap (step F (value_of f c.if-last-at.v)) (take_all (size F) c.put_length.new.block (omega arith) ∙ c.put_length.ensures ∙ ap (λ (x : ℕ). take (size F - field F) c.if-last-at.block ++ in_bytes big (field F) x) bits)
     ∙ joined

@@ -57,7 +57,7 @@ returns g c =
       | then-at-gt0 w ↦
           let from : c.if-at-gt0.from ≡ size F - at = omega (arith, w.from-is, same, c.block-size.ensures) in
           let laid : w.lay-then-at-gt0.new.block ≡ paste t at b (size F - at) = w.lay-then-at-gt0.ensures ∙ ap₂ (λ (i n : ℕ). paste t i (take (n - i) b) (length (take (n - i) b))) same c.block-size.ensures ∙ filled_up (size F) at t b enough in
-          let first : value_of f w.compress-v.result ≡ step F (g.S.Chain.value c.args.state.now) (take (size F) (paste t at b (size F - at))) = w.compress-v.ensures ∙ ap₂ (λ (x : Value) (l : List ℕ). step F x (take (size F) l)) c.words-v.ensures laid in
+          let first : value_of f w.compress.new.self ≡ step F (g.S.Chain.value c.args.state.now) (take (size F) (paste t at b (size F - at))) = w.compress.ensures ∙ ap₂ (λ (x : Value) (l : List ℕ). step F x (take (size F) l)) c.words-v.ensures laid in
           let sum : at + length b ≡ size F * suc q + left = omega (arith, parts, rest, from, mul-suc (size F) q) in
           takes F g.S.Chain.first b (suc q) left pos sum few
           (first_block (size F) pos (step F) g.S.Chain.first _ _ _ t b at q c.requires lt (omega arith) first

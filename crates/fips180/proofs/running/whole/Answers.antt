@@ -13,6 +13,6 @@ returns g c =
     let first = g.S.Chain.first in
     let pos : 0 < size F = omega (arith, g.met.S.Word.Word.narrow.0) in
     let n = holds_none (size F) pos (step F) first in
-    let h : HoldsBytes F first (g.S.Chain.value c.initial-state.result) c.args.block.now 0 [] = record { worked = c.initial-state.ensures ∙ n.worked; waits = c.requires.0 ∙ n.waits; counted = refl } in
+    let h : HoldsBytes F first (g.S.Chain.value c.args.state.now) c.args.block.now 0 [] = record { worked = c.requires.0 ∙ n.worked; waits = c.requires.1 ∙ n.waits; counted = refl } in
     let r = c.take.ensures.runs [] h in
     c.end.ensures c.args.message.now (record { worked = r.worked; waits = r.waits; counted = refl })

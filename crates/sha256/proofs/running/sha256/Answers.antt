@@ -20,4 +20,4 @@ returns c =
     let m = c.args.message.now in
     let w : length m ≤ most = omega arith in
     digested m c.refuse-refusal-2.result (c.refuse-refusal-2.ensures ∙ ap refusal_of (sym (number_within 0 (length m) (omega arith)))) c.output-digest.result w
-    (c.output-digest.ensures ∙ ap output c.whole-state.ensures)
+    (c.output-digest.ensures ∙ ap output c.whole.ensures)
