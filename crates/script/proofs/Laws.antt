@@ -1,6 +1,6 @@
 -- A script, one call more: the calls, the book, the answers and their bytes; and each call's promise, as a step.
 -- Assumes nothing.
-use mathlib.Core.Path.{◌≡◌, refl, sym, ◌∙◌, ap}
+use mathlib.Core.Path.{◌≡◌, refl, sym, ◌∙◌, ap, ap₂}
 use mathlib.Core.Bool.{true, false}
 use mathlib.Core.List.{List, [], ◌∷◌, ◌++◌, append_assoc, append-nil}
 use mathlib.Core.Logic.{⊎_elim}
@@ -8,10 +8,11 @@ use mathlib.Core.Option.{Option, none, some}
 use Prim.Native.Nat.{ℕ, zero, suc, ◌+◌, ◌-◌, ◌*◌, ◌/◌, ◌≤◌, ◌<◌}
 use native.Mathlib.Nat.{sub-zero, zero-sub, suc-sub-suc}
 use native.Mathlib.Omega.{arith}
-use borrow.Rule.Slice.PartMut.{mid_of, put_mid}
+use borrow.Rule.Slice.PartMut.{put_mid}
 use lib.Dec.{eqb, leb}
-use lib.ListN.{length, take, drop, get_or, replicate, length-append, length-take, length-drop, length-replicate, drop_of_length-le}
-use lib.Seq.{take_all, drop-append_seam, take_at, drop_at, drop-drop, take-append_seam}
+use lib.ListN.{length, take, drop, get_or, replicate, length-append, length-take, length-drop, length-replicate, take-append-drop}
+use Rattle.std.proofs.lemmas.Slice.{take-put_mid, drop-put_mid}
+use lib.Seq.{drop-append_seam, take_at, drop_at, drop-drop, take-append_seam}
 use borrow.Author.Tests.{le-leb, lt-leb, leb-true, eq-eqb, ne_eqb}
 use Rattle.seqs.specs.Flag.{yes}
 use Rattle.seqs.specs.Tab.{tab}
@@ -140,29 +141,29 @@ looked_reply a i out b =
 
 module _ (t : Table) where
   pub stored_steps : (s : Session) (r : Stored) (bytes : List ℕ) → Stores t s r → bytes ≡ reply r.refusal.number 0 0 0 0 []
-      → Steps t (store s) (record { table = r.table; reply = bytes })
+      → Steps t (store s) bytes r.table
   unfolding answer reply_of
   stored_steps s r bytes p q =
       record { replied = λ b k. q ∙ (rw (p.refusal, row_number (store_number s))); keeps = p.keeps }
 
   pub withdrew_steps : (a : ℕ) (i : List ℕ) (r : Withdrawn) (bytes : List ℕ) → Withdraws t a i r → bytes ≡ reply r.refusal.number r.withdrawn 0 0 0 []
-      → Steps t (withdraw a i) (record { table = r.table; reply = bytes })
+      → Steps t (withdraw a i) bytes r.table
   unfolding answer reply_of withdrawn_of
   withdrew_steps a i r bytes p q =
       record { replied = λ b k. q ∙ (rw (p.refusal, row_number (withdraw_number a i), p.answers b k)); keeps = p.keeps }
 
   pub counted_steps : (a : ℕ) (r : Held) (bytes : List ℕ) → CountsHeld t a r → bytes ≡ reply r.refusal.number 0 0 r.count 0 []
-      → Steps t (held a) (record { table = t; reply = bytes })
+      → Steps t (held a) bytes t
   unfolding answer reply_of held_of after
   counted_steps a r bytes p q = record { replied = λ b k. q ∙ (rw (p.answers b k, row_number (held_number a))); keeps = λ b k. k }
 
   pub cleared_steps : (r : Cleared) (bytes : List ℕ) → Clears t r → bytes ≡ reply r.refusal.number 0 0 0 0 []
-      → Steps t clear (record { table = r.table; reply = bytes })
+      → Steps t clear bytes r.table
   unfolding answer reply_of after
   cleared_steps r bytes p q = record { replied = λ b k. q ∙ (rw (p.refusal, row_number 0)); keeps = λ b k. p.keeps }
 
   pub looked_steps : (a : ℕ) (i out : List ℕ) (r : Looked) (out' bytes : List ℕ) → LooksUp t a i out r out' → bytes ≡ reply r.refusal.number r.found r.ems 0 r.suite out'
-      → Steps t (look_up a i out) (record { table = t; reply = bytes })
+      → Steps t (look_up a i out) bytes t
   unfolding after
   looked_steps a i out r out' bytes p q =
       record { replied = λ b k. let l = p.answers b k in q ∙ (rw (l.returned, l.output) (looked_reply a i out b)); keeps = λ b k. k }
@@ -174,26 +175,16 @@ drop-zeros zero n = rw sub-zero
 drop-zeros (suc m) zero = rw zero-sub
 drop-zeros (suc m) (suc n) = rw suc-sub-suc (drop-zeros m n)
 
-put_all : (d s : List ℕ) → length s ≡ length d → put_list d s ≡ s
-put_all d s e = rw (le-leb (length s) (length d) (omega arith), drop_of_length-le d {i = length s} (omega arith), append-nil)
+-- what was lent, with zeros behind it
+pub lent_at : (lent p : List ℕ) → p ≡ lent → p ++ drop {A = ℕ} (length lent) (replicate 64 0) ≡ lent ++ replicate (64 - length lent) 0
+lent_at lent p e = rw (e, drop-zeros (length lent) 64)
 
--- the output as it was lent: zeros behind it
-lent_zeros : (lent w : List ℕ) → w ≡ put_list (replicate 64 0) lent → length lent ≤ 64 → drop (length lent) w ≡ replicate (64 - length lent) 0
-lent_zeros lent w e h =
-    rw (e, le-leb (length lent) 64 h, drop-append_seam) (drop-zeros (length lent) 64)
+pub lent_front : (lent w : List ℕ) → w ≡ lent ++ replicate (64 - length lent) 0 → take (length lent) w ≡ lent
+lent_front lent w e = rw (e, take-append_seam)
 
-pub lent_front : (lent w : List ℕ) → w ≡ put_list (replicate 64 0) lent → length lent ≤ 64 → take (length lent) w ≡ lent
-lent_front lent w e h = rw (e, le-leb (length lent) 64 h, take-append_seam)
-
-pub lent_length_is : (lent w o : List ℕ) → w ≡ put_list (replicate 64 0) lent → length lent ≤ 64 → length o ≡ length lent → 64 ≡ length (o ++ drop (length lent) w)
-lent_length_is lent w o e h l = rw (lent_zeros lent w e h, length-append, length-replicate) (omega arith)
-
-pub looked_bytes : (n f e s : ℕ) (h lent w o v : List ℕ) → h ≡ reply n f e 0 s [] → w ≡ put_list (replicate 64 0) lent → length lent ≤ 64 → length o ≡ length lent
-    → v ≡ put_list (mid_of 6 64 h) (o ++ drop (length lent) w) → put_mid 6 64 h v ≡ reply n f e 0 s o
-looked_bytes n f e s h lent w o v p q k l r =
-    let x : o ++ drop (length lent) w ≡ o ++ replicate (64 - length o) 0 = rw (l, lent_zeros lent w q k) in
-    let y : length (o ++ replicate (64 - length o) 0) ≡ 64 = rw (length-append, length-replicate) (omega arith) in
-    rw (r, x, p, put_all (replicate 64 0) (o ++ replicate (64 - length o) 0) y, append-nil)
+pub looked_bytes : (n f e s : ℕ) (h lent w o v : List ℕ) → h ≡ reply n f e 0 s [] → w ≡ lent ++ replicate (64 - length lent) 0 → length o ≡ length lent
+    → v ≡ o ++ drop (length lent) w → put_mid 6 64 h v ≡ reply n f e 0 s o
+looked_bytes n f e s h lent w o v p q l r = rw (r, q, drop-append_seam, l, p, append-nil)
 
 -- ---- the call in an entry, by its first byte
 
@@ -231,16 +222,19 @@ pub built_none : (s d : List ℕ) → Built d 0 (said s 0) d
 unfolding tab answers_from replies_of
 built_none s d = record { size = refl; same = refl; holds = refl }
 
-pub built_more : (out m m' d v r : List ℕ) (at at' : ℕ) → Built out at m d → length r ≡ 70 → at + 70 ≤ length d → at' ≡ at + 70 → m' ≡ m ++ r
-    → v ≡ put_list (mid_of at (length out - at) out) r → Built (put_mid at (length out - at) out v) at' m' d
-built_more out m m' d v r at at' b l f p q w =
+pub built_more : (out m m' d v r : List ℕ) (at at' n : ℕ) → Built out at m d → length r ≡ 70 → at + 70 ≤ length d → at' ≡ at + 70 → m' ≡ m ++ r
+    → n ≡ 70 → v ≡ r → Built (put_mid at n out v) at' m' d
+built_more out m m' d v r at at' n b l f p q z w =
     let rest : drop at out ≡ drop at d = rw b.holds (drop_at m (drop at d) at b.size) in
     let front : take at out ≡ m = rw b.holds (take_at m (drop at d) at b.size) in
-    let all : take (length out - at) (drop at d) ≡ drop at d = take_all (length out - at) (drop at d) (rw length-drop (omega (arith, b.same))) in
-    let none : drop (length out - at) (drop at d) ≡ [] = drop_of_length-le (drop at d) {i = length out - at} (rw length-drop (omega (arith, b.same))) in
-    let fits : length r ≤ length (drop at d) = rw length-drop (omega arith) in
-    let new : put_mid at (length out - at) out v ≡ m' ++ drop at' d =
-    rw (w, rest, front, all, none, append-nil, le-leb (length r) (length (drop at d)) fits, l, drop-drop, p, q) (sym (append_assoc m r (drop (at + 70) d))) in
+    let begins : at ≤ length out = omega (arith, b.same) in
+    let head : take (at + 70) (put_mid at n out v) ≡ m ++ r =
+    take-put_mid at n out v (at + 70) (omega (arith, l, ap length w)) begins ∙ (rw (front, w)) in
+    let tail : drop (at + 70) (put_mid at n out v) ≡ drop (at + 70) d =
+    drop-put_mid at n out v (at + 70) (omega arith) begins (omega (arith, l, z, ap length w))
+    ∙ sym (drop-drop 70 at out) ∙ ap (drop 70) rest ∙ drop-drop 70 at d in
+    let new : put_mid at n out v ≡ m' ++ drop at' d =
+    sym (take-append-drop (at + 70) (put_mid at n out v)) ∙ ap₂ {C = List ℕ} (λ x y. x ++ y) head tail ∙ (rw (p, q)) in
     record {
       size = rw (q, length-append, b.size, l, p);
       same = ap length new ∙ (rw (q, p, length-append, length-append, length-drop) (omega (arith, b.size)));

@@ -1,4 +1,4 @@
--- A clearing.
+-- The table's promise, as a step.
 -- Assumes nothing.
 use Rattle.script.proofs.Laws.{cleared_steps}
 use Rattle.script.proofs.cleared.Goals as goal
@@ -6,4 +6,4 @@ use Rattle.script.proofs.cleared.Goals as goal
 pub returns : goal.returns
 returns c =
     let a = c.args in
-    cleared_steps a.table c.clear-r.result c.head.result c.clear-r.ensures c.head.ensures
+    cleared_steps a.table.now c.clear-r.result c.bytes.result c.clear-r.ensures (rw c.of.ensures at c.bytes.ensures)

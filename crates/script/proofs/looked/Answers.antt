@@ -1,28 +1,16 @@
 -- A look_up: its output is lent for as long as it is, and handed on with zeros behind it.
 -- Assumes nothing.
-use mathlib.Core.Path.{sym, ◌∙◌}
-use native.Mathlib.Omega.{arith}
-use lib.ListN.{length}
-use lib.Seq.{length-take-le}
-use Rattle.script.proofs.Laws.{lent_front, lent_length_is, looked_steps, looked_bytes}
+use Rattle.std.proofs.Common.{◌≡◌, List, ◌++◌, ◌-◌, ℕ, length, take, drop, replicate, ◌∙◌, ap}
+use Rattle.script.proofs.Laws.{looked_steps, looked_bytes, lent_at, lent_front}
 use Rattle.script.proofs.looked.Goals as goal
-
-pub slice_bounds-look_up-end : goal.slice_bounds-look_up-end
-slice_bounds-look_up-end c =
-    let a = c.args in
-    sym (length-take-le (length a.lent.now) c.put.new.out (omega (arith, c.put.auto.out)))
-
-pub slice_bounds-put-end-2 : goal.slice_bounds-put-end-2
-slice_bounds-put-end-2 c =
-    let a = c.args in
-    lent_length_is a.lent.now c.put.new.out c.look_up-r.new.out c.put.ensures.1 c.requires (c.look_up-r.auto.out ∙ length-take-le (length a.lent.now) c.put.new.out (omega (arith, c.put.auto.out)))
 
 pub returns : goal.returns
 returns c =
     let a = c.args in
     let l = c.look_up-r in
-    let p = c.put in
-    let size = l.auto.out ∙ length-take-le (length a.lent.now) p.new.out (omega (arith, p.auto.out, c.requires)) in
-    looked_steps a.table a.axle a.identifier.now a.lent.now l.result l.new.out _ (rw (lent_front a.lent.now p.new.out p.ensures.1 c.requires) at l.ensures)
-    (looked_bytes l.result.refusal.number l.result.found l.result.ems l.result.suite c.head-reply.result a.lent.now p.new.out l.new.out c.put-2.new.out
-    c.head-reply.ensures p.ensures.1 c.requires size c.put-2.ensures.1)
+    let w : List ℕ = c.copy_from_slice.new.self ++ drop {A = ℕ} (length a.lent.now) (replicate 64 0) in
+    let e : w ≡ a.lent.now ++ replicate (64 - length a.lent.now) 0 = lent_at a.lent.now c.copy_from_slice.new.self c.copy_from_slice.ensures.after in
+    let f : take (length a.lent.now) w ≡ a.lent.now = lent_front a.lent.now w e in
+    looked_steps a.table.now a.axle a.identifier.now a.lent.now l.result l.new.out _ (rw f at l.ensures)
+    (looked_bytes l.result.refusal.number l.result.found l.result.ems l.result.suite c.bytes-bytes.result a.lent.now w l.new.out c.copy_from_slice-2.new.self
+    c.bytes-bytes.ensures e (l.auto.out ∙ ap length f) c.copy_from_slice-2.ensures.after)

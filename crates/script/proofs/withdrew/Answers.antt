@@ -1,4 +1,4 @@
--- A withdrawal.
+-- The table's promise, as a step.
 -- Assumes nothing.
 use Rattle.script.proofs.Laws.{withdrew_steps}
 use Rattle.script.proofs.withdrew.Goals as goal
@@ -6,4 +6,4 @@ use Rattle.script.proofs.withdrew.Goals as goal
 pub returns : goal.returns
 returns c =
     let a = c.args in
-    withdrew_steps a.table a.axle a.identifier.now c.withdraw-r.result c.head.result c.withdraw-r.ensures c.head.ensures
+    withdrew_steps a.table.now a.axle a.identifier.now c.withdraw-r.result c.bytes.result c.withdraw-r.ensures (rw c.of.ensures at c.bytes.ensures)
