@@ -26,7 +26,7 @@ use Rattle.message_log.specs.History.{History, place_of, hashed, choice_of, sess
 use Rattle.message_log.specs.Standing.{Standing, Part, history_of, between, left_of}
 use Rattle.message_log.specs.Standing.Standing.{whole, parted}
 use Rattle.message_log.specs.Calls.{session_number, session_hash_of, finished_of}
-use Rattle.message_log.specs.Stands.{Stands, Placed, number}
+use Rattle.message_log.specs.Stands.{Stands, number}
 use Rattle.message_log.specs.Promise.{Hashes}
 use Rattle.message_log.specs.Finish.{expected_number, expected_of}
 use Rattle.message_log.specs.Parts.{DoneIsWhole}
@@ -39,7 +39,6 @@ use Rattle.message_log.proofs.Turns.{same_place, resumed_at}
 use Rattle.message_log.proofs.Places.{placed_says, complete_by}
 use Rattle.message_log.proofs.Held.{unexchanged_past}
 use Rattle.message_log.proofs.Chosen.{choice_made, length-session}
-use Rattle.message_log.proofs.Standing.{by_whole}
 use Rattle.message_log.proofs.Heads.{kind_front, accepted_due}
 
 -- was a ClientKeyExchange accepted, as the log has it: between parts nothing is told

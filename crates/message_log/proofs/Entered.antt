@@ -101,16 +101,9 @@ module _ (log : Log) (bytes : List ℕ) (t : Turn) (left : ℕ) (choice : Choice
       (record { hash = next; place = place; session = session; client = log.client; server = log.server; kind = kind; next = then; sha384 = told; left = left })
       worked
 
-  pub part_entered : (left ≡ 0 → ⊥) → With log.place log.session t.kind t.place t.sha384
-  part_entered z = entered_part log bytes t left next worked (enters_on x (y.stays (λ e. absurd (z e)))) z
-
   module _ (e : left ≡ 0) where
     stays : (t.kind ≡ 2 → ⊥) → Enters log.hash bytes next worked
     stays o = enters_on x (y.stays (λ _ q. o q))
-
-    pub exchange_entered : t.kind ≡ 16 → (session : List ℕ) → ((c : Choice) (m : List ℕ) → Carries next c m → session ≡ in_field (digest_of (algorithm_of c) m))
-        → With t.place session 0 0 0
-    exchange_entered z session f = let o : t.kind ≡ 2 → ⊥ = λ q. omega (arith, z, q) in entered_exchange log bytes t left next worked (stays o) e o z session f
 
     -- a ServerHello, or another one
     pub other_entered : (t.kind ≡ 16 → ⊥) → With t.place log.session 0 0 0

@@ -1,15 +1,14 @@
 -- A Finished, and what is expected of it: the number at each way out, and what is promised there.
 -- Assumes nothing.
-use mathlib.Core.Path.{◌≡◌, refl, sym, ◌∙◌, ap, subst}
+use mathlib.Core.Path.{◌≡◌, refl, sym, ◌∙◌, ap}
 use mathlib.Core.Bool.{Bool, true, false, not, ◌&&◌, false≢true}
 use mathlib.Core.List.{List, [], ◌∷◌, append-nil}
 use Rattle.std.proofs.Common.{Option, Some, None, Result, Ok, Err}
 use Rattle.std.specs.Option.{ok_or}
 use Prim.Native.Nat.{ℕ, ◌≤◌, ◌<◌}
 use native.Mathlib.Omega.{arith}
-use lib.Dec.{eqb}
 use lib.ListN.{length, replicate}
-use borrow.Author.Tests.{eq-eqb, ne_eqb, not-true, not-false}
+use borrow.Author.Tests.{eq-eqb, ne_eqb}
 use Rattle.seqs.specs.Pick.{pick}
 use Rattle.refusal.specs.First.{first_of}
 use Rattle.refusal.proofs.First.{first_passed, first_front}
@@ -19,7 +18,6 @@ use Rattle.refusal.specs.Reason.{number_for, refusal_for, refused}
 use Rattle.refusal.specs.declared.reason.Reason.{Reason}
 use Rattle.refusal.specs.declared.reason.Reason.TheVariants.{OutOfTurn, Differs, Length}
 use Rattle.octets.specs.Same.{same}
-use Rattle.seqs.specs.Cases.{by_test, not_both}
 use Rattle.octets.specs.Equal.{same_true}
 use Rattle.message.specs.Frame.{kind_of, body_of, overlong, misstated}
 use Rattle.transcript.specs.Choice.{Algorithm}
@@ -30,10 +28,10 @@ use Rattle.prf.specs.Promise.{verify_number, verified_of}
 use Rattle.prf.specs.Hash.{HashFunction}
 use Rattle.prf.specs.Secrets.{verify_data}
 use Rattle.message_log.specs.Suite.{function_of}
-use Rattle.message_log.specs.Order.{turns, look, finished_due}
+use Rattle.message_log.specs.Order.{finished_due}
 use Rattle.message_log.specs.History.{History, tells, place_of, hashed, choice_of, suite_of, from_server, is_from}
 use Rattle.message_log.specs.History.Beside.{under}
-use Rattle.message_log.specs.Standing.{Standing, Part, history_of, between}
+use Rattle.message_log.specs.Standing.{Standing, history_of, between}
 use Rattle.message_log.specs.Standing.Standing.{whole, parted}
 use Rattle.message_log.specs.Calls.{misshapen, shape_number, broken_at, is_finished}
 use Rattle.message_log.specs.Finish.{expected_value, expected_number, expected_of, finish_number, after_finish, Compared}

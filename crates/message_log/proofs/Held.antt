@@ -1,12 +1,12 @@
 -- The code's places: no two of them have one number, and what the number says of the history.
 -- Assumes nothing.
 use mathlib.Core.Path.{◌≡◌, refl, sym, ◌∙◌, ap}
-use mathlib.Core.Bool.{Bool, true, false, not, ◌&&◌, ◌||◌}
+use mathlib.Core.Bool.{Bool, true, false, ◌&&◌, ◌||◌}
 use mathlib.Core.Logic.{◌⊎◌, inl, inr}
 use mathlib.Core.List.{List, [], ◌∷◌}
-use Rattle.std.proofs.Common.{Option, Some, None, Result, Ok, Err}
+use Rattle.std.proofs.Common.{Some, None, Result, Ok, Err}
 use Rattle.std.specs.Result.{result_ok}
-use Prim.Native.Nat.{ℕ, ◌≤◌, ◌<◌}
+use Prim.Native.Nat.{ℕ, ◌<◌}
 use native.Mathlib.Omega.{arith}
 use lib.Dec.{eqb, leb}
 use lib.ListN.{get_or}
@@ -17,7 +17,7 @@ use Rattle.message_log.specs.Order.{Place, turns, look, is_due, finished_due}
 use Rattle.message_log.specs.Order.Place.{nowhere}
 use Rattle.message_log.specs.History.{History, place_of, exchanged, from_server}
 use Rattle.message_log.specs.Stands.{number, Placed}
-use Rattle.message_log.specs.Places.{read, led, Numbered, DueTo}
+use Rattle.message_log.specs.Places.{read, Numbered, DueTo}
 use Rattle.message_log.specs.declared.order.Place.{Place as Held}
 use Rattle.message_log.specs.declared.order.Place.TheVariants.{Beginning, ClientHello, ServerHello, ServerCertificate, ServerKeyExchange, CertificateRequest, HelloDone, HelloDoneRequested, ClientCertificate, KeyExchange, KeyExchangeCertified, CertificateVerify, ClientFirst, CompleteFull, ResumingHello, ServerFirst, CompleteResumed}
 use Rattle.message_log.proofs.Turns.{passes, each_place, same_place, number_most, due_number}

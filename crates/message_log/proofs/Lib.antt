@@ -4,7 +4,6 @@ pub mod Places
 pub mod Held
 pub mod Messages
 pub mod Chosen
-pub mod Fields
 pub mod Standing
 pub mod Alone
 pub mod Heads

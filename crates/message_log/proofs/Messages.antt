@@ -1,19 +1,19 @@
 -- A message by itself: which number it has and where it broke, and what is known of one that is not refused.
 -- Assumes nothing.
 use mathlib.Core.Path.{◌≡◌, refl, sym, ◌∙◌, ap, ap₂}
-use mathlib.Core.Bool.{Bool, true, false, not, ◌||◌}
+use mathlib.Core.Bool.{Bool, true, false, not}
 use mathlib.Core.List.{List, [], ◌∷◌}
 use Prim.Native.Nat.{ℕ, ◌≤◌}
 use native.Mathlib.Omega.{arith}
-use lib.Dec.{eqb, ltb}
+use lib.Dec.{ltb}
 use lib.ListN.{length}
-use borrow.Author.Tests.{ltb-true, ltb-false, ne_eqb, not-true, not-false}
+use borrow.Author.Tests.{ltb-true, ltb-false, not-true, not-false}
 use Rattle.seqs.specs.Pick.{pick}
 use Rattle.refusal.specs.First.{first_of}
 use Rattle.refusal.proofs.First.{first_front}
 use Rattle.message.specs.Frame.{overlong, cut_off, misstated, header_place, frame_number, framed}
 use Rattle.message_log.specs.Calls.{wrong_body, misshapen, shape_number, broken_at}
-use Rattle.refusal.specs.Table.{refusal_of, refusal_at}
+use Rattle.refusal.specs.Table.{refusal_at}
 use Rattle.std.proofs.Common.{Ok, Err}
 use Rattle.message.specs.declared.header.Header.{Header}
 use Rattle.refusal.specs.Reason.{refusal_for}
@@ -23,27 +23,6 @@ use Rattle.message.proofs.Frames.{whole_learnt, refused_learnt, stated_long}
 use Rattle.message_log.specs.Steps.{Judges}
 use Rattle.refusal.specs.Listed.{anywhere, number_at, numbered}
 use Rattle.seqs.specs.Cases.{by_test, or_left}
-
--- the bodies that the types ask for
-pub zero_body : (n : ℕ) → eqb n 0 ≡ not (wrong_body 0 n)
-unfolding wrong_body
-zero_body n = go (eqb n 0)
-  where
-    go : (b : Bool) → b ≡ not (not b || false)
-    go true = refl
-    go false = refl
-
-pub finished_body : (n : ℕ) → eqb n 12 ≡ not (wrong_body 20 n)
-unfolding wrong_body
-finished_body n = sym (not_not (eqb n 12))
-  where
-    not_not : (b : Bool) → not (not b) ≡ b
-    not_not true = refl
-    not_not false = refl
-
-pub other_body : (kind n : ℕ) → (kind ≡ 0 → ⊥) → (kind ≡ 20 → ⊥) → not (wrong_body kind n) ≡ true
-unfolding wrong_body
-other_body kind n e f = rw (ne_eqb kind 0 e, ne_eqb kind 20 f)
 
 module _ (m : List ℕ) where
   by_tests : (a b c : Bool) → overlong m ≡ a → misstated m ≡ b → misshapen m ≡ c → shape_number m ≡ pick a 10 (pick b 1 (pick c 1 0))

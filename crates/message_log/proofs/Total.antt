@@ -39,7 +39,7 @@ use Rattle.message_log.specs.Calls.{misshapen, shape_number, broken_at}
 use Rattle.message_log.specs.Finish.{expected_value}
 use Rattle.message_log.specs.Feed.{bad_allowance}
 use Rattle.message_log.specs.Stands.{Stands, Placed, number, hash_number}
-use Rattle.message_log.specs.Places.{read, DueTo}
+use Rattle.message_log.specs.Places.{DueTo}
 use Rattle.message_log.specs.Steps.{Judges, TurnOf, PartTurn, Entered, Asks}
 use Rattle.message_log.specs.Promise.{Feeds, blocks_of}
 use Rattle.message_log.specs.Runs.{Call, after, Step, Ran, Total}

@@ -41,7 +41,7 @@ impl Log {
         }
     }
 
-    // The bytes that were taken and the blocks that they completed.
+    // How many bytes were taken, and the blocks that they completed. Refused, the log is as it was.
     fn try_feed(
         &mut self,
         rest: &[u8],

@@ -29,6 +29,7 @@ impl Log {
         Accepted { refusal, log: self }
     }
 
+    // Refused, the log is as it was.
     fn try_finish(&mut self, secret: &[u8], message: &[u8]) -> Result<(), Reason>
         ensures { Finishes self.old secret.now message.now (answered result self.new) }
     {

@@ -1,6 +1,6 @@
 // Types of messages (HandshakeType of RFC 5246, section 7.4), by their numbers.
-// Kept: any byte may come as a type, and a log keeps it as a byte: an enum would need a variant for all others and a conversion at each use.
-
+// Kept: any byte may come as a type, and the C struct Log keeps one, so an enum would need a variant for every other byte, which must not be
+// one of these, and a conversion at each use.
 pub(crate) const HELLO_REQUEST: u8 = 0;
 
 pub(crate) const CLIENT_HELLO: u8 = 1;

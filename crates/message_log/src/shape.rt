@@ -28,6 +28,7 @@ pub(crate) fn judge(message: &[u8]) -> Result<u8, Reason>
 }
 
 // A HelloRequest has no body, a Finished 12 bytes.
+#[tactic(auto, unfolding(crate::specs::Calls::wrong_body))]
 fn fits(kind: u8, length: usize) -> bool
     ensures { result ≡ not (wrong_body kind length) }
 {

@@ -29,12 +29,13 @@ pub(crate) struct Turn {
     pub sha384: u8,
 }
 
+// Kept: C interface. The places, the type and the hash are bytes, any of which a caller may hand back.
 #[repr(C)]
 #[derive(Clone, Copy)]
 pub struct Log {
     // every accepted message but type 0, and what has entered of one that is between parts
     pub hash: Transcript,
-    // where the handshake stands: a place of `order`
+    // where the handshake stands: the number of a place of `order`
     pub place: u8,
     // the session hash, once there is one, with zeros behind it
     pub session: [u8; 48],
@@ -75,6 +76,7 @@ impl Log {
         Accepted { refusal, log: self }
     }
 
+    // Refused, the log is as it was.
     fn try_accept(&mut self, message: &[u8], told: Told) -> Result<(), Reason>
         ensures { Accepts self.old message.now (told_of told) (answered result self.new) }
     {

@@ -1,9 +1,7 @@
 -- Both Finished are taken at two places.
 -- Assumes nothing.
-use mathlib.Core.Path.{◌≡◌, ◌∙◌}
-use mathlib.Core.Bool.{false}
+use mathlib.Core.Path.{◌∙◌}
 use mathlib.Core.Logic.{inl, inr}
-use lib.Dec.{eqb}
 use Rattle.message_log.specs.Places.{read}
 use Rattle.message_log.specs.Stands.{number}
 use Rattle.message_log.proofs.Asking.{finished_done, finished_not}

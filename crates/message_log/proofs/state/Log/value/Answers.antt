@@ -1,6 +1,6 @@
 -- The PRF of the suite's hash, over the hash of the log.
 -- Assumes nothing.
-use mathlib.Core.Path.{refl, ◌∙◌, ap}
+use mathlib.Core.Path.{◌∙◌, ap}
 use Rattle.transcript.specs.Choice.{algorithm_by}
 use Rattle.transcript.specs.Choice.Algorithm.{sha_256, sha_384}
 use Rattle.message_log.specs.History.{hashed, choice_of}
