@@ -54,7 +54,10 @@ fn hear(
     ensures { decision_in result ≡ client_decision (read_server message.now) offered.now (lent_in lent.entry) connection.now switches.now }
 {
     let session = offered_session(offered, lent)?;
-    let hello = hello::read_server_hello(message)?;
+    let read = hello::read_server_hello(message);
+    let Ok(hello) = read else {
+        return Err(read.unwrap_err());
+    };
     let identifier = hello.identifier;
     let end = identifier.at + identifier.length;
     let told = Told {

@@ -47,7 +47,10 @@ fn serve(
     if axle < 1 || 6 < axle {
         return Err(Reason::Name);
     }
-    let hello = hello::read_client_hello(message)?;
+    let read = hello::read_client_hello(message);
+    let Ok(hello) = read else {
+        return Err(read.unwrap_err());
+    };
     let session = session_of(message, &hello, axle, table);
     let asked = Asked {
         signal: hello.signal != 0,

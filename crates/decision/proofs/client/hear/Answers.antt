@@ -1,7 +1,8 @@
 -- The client's decision: the offer, the reading, and what it tells.
 -- Assumes nothing.
-use Rattle.std.proofs.Common.{◌≡◌, ◌∙◌, ap, arith, ℕ, ◌+◌, ◌-◌, take, drop}
+use Rattle.std.proofs.Common.{◌≡◌, sym, ◌∙◌, ap, arith, ℕ, ◌+◌, ◌-◌, take, drop}
 use Rattle.std.proofs.lemmas.Result.{err_from_is_err_and}
+use Rattle.refusal.specs.Reason.{refused}
 use Rattle.hello.proofs.Learnt.{server_learnt, server_fault}
 use Rattle.decision.specs.Client.{Told}
 use Rattle.decision.specs.Steps.{lent_in, original_in, weighed_of_offered, client_plain}
@@ -16,21 +17,21 @@ returns-in_err-session c =
     let e = offered_refused a.offered.now a.lent c.in_err-session.field-0.0 c.in_err-session.ensures in
     rw (p.1, p.2, e.0) (decide_offer _ a.offered.now (lent_in a.lent) a.connection.now a.switches.now e.1)
 
-pub returns-in_err-hello : goal.returns-in_err-hello
-returns-in_err-hello c =
+pub returns-in_default : goal.returns-in_default
+returns-in_default c =
     let a = c.args in
-    let p = err_from_is_err_and c.from_residual-in_err-hello.result c.from_residual-in_err-hello.ensures.1 in
+    let e = ap refused (sym c.unwrap_err.ensures) ∙ c.read_server_hello-read.ensures in
     let l = offered_learnt a.offered.now a.lent c.in_ok-session.session c.in_ok-session.ensures in
-    rw (p.1, p.2) (decide_fault _ a.offered.now (lent_in a.lent) a.connection.now a.switches.now l.good (server_fault a.message.now _ c.in_err-hello.ensures))
+    decide_fault _ a.offered.now (lent_in a.lent) a.connection.now a.switches.now l.good (server_fault a.message.now _ e)
 
 pub overflow_add-end : goal.overflow_add-end
-overflow_add-end c = omega (arith, (server_learnt c.args.message.now c.in_ok-hello.hello c.in_ok-hello.ensures).identifier.within)
+overflow_add-end c = omega (arith, (server_learnt c.args.message.now c.in-Ok.hello c.in-Ok.ensures).identifier.within)
 
 pub slice_bounds-told-end : goal.slice_bounds-told-end
-slice_bounds-told-end c = omega (arith, (server_learnt c.args.message.now c.in_ok-hello.hello c.in_ok-hello.ensures).identifier.within)
+slice_bounds-told-end c = omega (arith, (server_learnt c.args.message.now c.in-Ok.hello c.in-Ok.ensures).identifier.within)
 
 pub indication_of-requires : goal.indication_of-requires
-indication_of-requires c = (server_learnt c.args.message.now c.in_ok-hello.hello c.in_ok-hello.ensures).extensions.bounded
+indication_of-requires c = (server_learnt c.args.message.now c.in-Ok.hello c.in-Ok.ensures).extensions.bounded
 
 pub judge-requires : goal.judge-requires
 judge-requires c = (offered_learnt c.args.offered.now c.args.lent c.in_ok-session.session c.in_ok-session.ensures).offers
@@ -38,8 +39,8 @@ judge-requires c = (offered_learnt c.args.offered.now c.args.lent c.in_ok-sessio
 pub returns : goal.returns
 returns c =
     let a = c.args in
-    let h = c.in_ok-hello.hello in
-    let w = c.in_ok-hello.ensures in
+    let h = c.in-Ok.hello in
+    let w = c.in-Ok.ensures in
     let m = a.message.now in
     let l = offered_learnt a.offered.now a.lent c.in_ok-session.session c.in_ok-session.ensures in
     let i = h.identifier in
