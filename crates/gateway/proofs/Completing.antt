@@ -1,7 +1,9 @@
 -- Completion by its tests, and what every outcome of it has in common.
 -- Assumes nothing.
 use mathlib.Core.Path.{◌≡◌, refl, sym, ◌∙◌, ap, subst}
-use mathlib.Core.Bool.{Bool, true, false, not, ◌&&◌, false≢true}
+use mathlib.Core.Bool.{Bool, true, false, not, ◌&&◌, false≢true, beq}
+use mir.Val.{bool_byte}
+use native.Mathlib.Omega.{arith}
 use mathlib.Core.List.{List, [], ◌∷◌}
 use Prim.Native.Nat.{ℕ}
 use lib.Dec.{eqb}
@@ -28,6 +30,23 @@ use Rattle.message_log.specs.declared.answers.Finished.{Finished}
 use Rattle.decision.specs.declared.connection.Connection.{Connection}
 use Rattle.decision.specs.declared.connection.Decision.{Decision}
 use Rattle.gateway.specs.Completion.{Completed, complete_number, completed_record, completed_of, Completes, WritesChecked, NotBetween}
+
+-- flags as the code compares and writes them
+pub byte_bit : (t : Bool) → bool_byte t ≡ bit t
+byte_bit true = refl
+byte_bit false = refl
+
+pub alike : (x y : Bool) → not (beq x y) ≡ false → bit x ≡ bit y
+alike true true e = refl
+alike true false e = absurd (false≢true (sym e))
+alike false true e = absurd (false≢true (sym e))
+alike false false e = refl
+
+pub unlike : (x y : Bool) → not (beq x y) ≡ true → bit x ≡ bit y → ⊥
+unlike true true e = absurd (false≢true e)
+unlike true false e = λ f. let z : ◌≡◌ {A = ℕ} 1 0 = f in absurd (omega arith)
+unlike false true e = λ f. let z : ◌≡◌ {A = ℕ} 0 1 = f in absurd (omega arith)
+unlike false false e = absurd (false≢true e)
 
 -- 7, and the record as it was
 abbrev pub refused_with : Connection → Completed

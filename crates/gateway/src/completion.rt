@@ -18,12 +18,14 @@ fn completed(finished: Finished, decision: Decision) -> Result<Connection, Reaso
     if resumed != resumes {
         return Err(Reason::OutOfTurn);
     }
+    let client = finished.client;
+    let server = finished.server;
     Ok(Connection {
         completed: 1,
         indication: u8::from(decision.indication != 0),
         barred: u8::from(decision.bar != 0),
-        client: finished.client,
-        server: finished.server,
+        client,
+        server,
     })
 }
 

@@ -6,7 +6,7 @@ ghost use Rattle.decision.specs.Connection.{fresh_connection};
 ghost use Rattle.decision.specs.Server.{ServerDecides};
 ghost use Rattle.decision.specs.Client.{lent_of, client_decision};
 
-use decision::{Connection, Decision, Switches};
+use decision::{Connection, Decision, Lent, Switches};
 use sessions::{Table, Weighed};
 
 #[unsafe(no_mangle)]
@@ -43,13 +43,13 @@ pub extern "C" fn axle_decide_client(
 ) -> Decision
     ensures { result ≡ client_decision (read_server message.now) offered.now (lent_of (yes session) identifier.now (record { ems = yes ems; suite = suite })) connection switches }
 {
-    decision::decide_client(
-        message,
-        offered,
-        session != 0,
+    let lent = Lent {
         identifier,
-        Weighed { ems, suite },
-        connection,
-        switches,
-    )
+        session: Weighed {
+            ems: ems != 0,
+            suite,
+        },
+    };
+    let lent = (session != 0).then_some(lent);
+    decision::decide_client(message, offered, lent, connection, switches)
 }
