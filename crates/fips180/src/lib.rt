@@ -3,14 +3,12 @@
 
 mod begun;
 mod bytes;
-mod chain;
 mod constants;
 mod running;
 mod word;
 mod words;
 
-pub use begun::{begin, end_by, end_short, fits};
-pub use chain::Chain;
+pub use begun::{end_by, end_short, fits};
 pub use running::{MOST, end, exceeds, take, whole};
 pub use word::Word;
 pub use words::Words;

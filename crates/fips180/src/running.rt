@@ -1,14 +1,13 @@
-// A message in pieces: the blocks that a piece completes, and the padding behind the last. The hash value, the tail and the count of what
-// was taken lie in structs of C, and are lent one by one.
+// A message in pieces: the blocks that a piece completes, and the padding behind the last. The tail and the count of what was taken lie in
+// structs of C, and are lent one by one.
 ghost use Rattle.std.specs.Prelude.{◌≡◌, ℕ, ◌+◌, ◌-◌, ◌/◌, ◌≤◌, List, length, drop, replicate, nat_lt};
 ghost use Rattle.seqs.specs.Blocks.{after};
-ghost use Rattle.seqs.specs.Sha2.{step};
+ghost use Rattle.seqs.specs.Sha2.{Value, step};
 ghost use Rattle.fips180.specs.Kinds.{size};
 ghost use Rattle.fips180.specs.Layout.{value_of};
 ghost use Rattle.fips180.specs.Takes.{HashesTo, HoldsBytes, TakesBytes, most};
 
 use crate::bytes::{lay, seal};
-use crate::chain::Chain;
 use crate::word::Word;
 use crate::words::Words;
 
@@ -29,11 +28,17 @@ fn blocks<W: Word>(v: &mut Words<W>, b: &[u8], from: usize, worked: &mut usize)
 
 // More bytes, behind those that were taken: the first block is completed in the tail where some wait there, the others are compressed where
 // they lie, and only what is left over is copied.
-pub fn take<S: Chain>(state: &mut S, tail: &mut [u8], taken: u64, bytes: &[u8], worked: &mut usize)
-    requires { length tail.old ≡ size S.Word.kind }
-    ensures { TakesBytes S.Word.kind S.first (S.value state.old) tail.old taken bytes.now (S.value state.new) tail.new worked.new }
+pub fn take<W: Word>(
+    v: &mut Words<W>,
+    tail: &mut [u8],
+    taken: u64,
+    bytes: &[u8],
+    worked: &mut usize,
+)
+    requires { length tail.old ≡ size W.kind }
+    ensures { (first : Value) → TakesBytes W.kind first (value_of W.number v.old) tail.old taken bytes.now (value_of W.number v.new) tail.new worked.new }
 {
-    let size = S::Word::block();
+    let size = W::block();
     let at = (taken % size as u64) as usize;
     let n = bytes.len();
     if n < size - at {
@@ -41,7 +46,6 @@ pub fn take<S: Chain>(state: &mut S, tail: &mut [u8], taken: u64, bytes: &[u8], 
         lay(tail, at, bytes);
         return;
     }
-    let mut v = state.words();
     let mut from = 0;
     let mut count = 0;
     if 0 < at {
@@ -50,8 +54,7 @@ pub fn take<S: Chain>(state: &mut S, tail: &mut [u8], taken: u64, bytes: &[u8], 
         v.compress(tail, 0);
         count = 1;
     }
-    blocks(&mut v, bytes, from, &mut count);
-    *state = S::of(v);
+    blocks(v, bytes, from, &mut count);
     *worked = count;
     let left = (n - from) % size;
     tail.fill(0);
@@ -59,32 +62,30 @@ pub fn take<S: Chain>(state: &mut S, tail: &mut [u8], taken: u64, bytes: &[u8], 
 }
 
 // The hash value behind the padding, which is laid into the last block, or the last two.
-pub fn end<S: Chain>(state: &mut S, block: &mut [u8], taken: u64)
-    requires { (length block.old ≡ size S.Word.kind) × (taken ≤ most) }
-    ensures { (m : List ℕ) → HoldsBytes S.Word.kind S.first (S.value state.old) block.old taken m → HashesTo S.Word.kind S.first m (S.value state.new) }
+pub fn end<W: Word>(v: &mut Words<W>, block: &mut [u8], taken: u64)
+    requires { (length block.old ≡ size W.kind) × (taken ≤ most) }
+    ensures { (first : Value) (m : List ℕ) → HoldsBytes W.kind first (value_of W.number v.old) block.old taken m → HashesTo W.kind first m (value_of W.number v.new) }
 {
-    let size = S::Word::block();
+    let size = W::block();
     let at = (taken % size as u64) as usize;
-    let last = size - S::Word::field();
-    let mut v = state.words();
+    let last = size - W::field();
     seal(block, at);
     if last <= at {
         v.compress(block, 0);
         block.fill(0);
     }
-    S::Word::put_length(block, taken * 8);
+    W::put_length(block, taken * 8);
     v.compress(block, 0);
-    *state = S::of(v);
 }
 
 // The hash value of a whole message, from a fresh one and a block of zeros.
-pub fn whole<S: Chain>(state: &mut S, block: &mut [u8], message: &[u8])
-    requires { (S.value state.old ≡ S.first) × (block.old ≡ replicate (size S.Word.kind) 0) × (length message.now ≤ most) }
-    ensures { HashesTo S.Word.kind S.first message.now (S.value state.new) }
+pub fn whole<W: Word>(v: &mut Words<W>, block: &mut [u8], message: &[u8])
+    requires { (block.old ≡ replicate (size W.kind) 0) × (length message.now ≤ most) }
+    ensures { HashesTo W.kind (value_of W.number v.old) message.now (value_of W.number v.new) }
 {
     let mut worked = 0;
-    take(state, block, 0, message, &mut worked);
-    end(state, block, message.len() as u64);
+    take(v, block, 0, message, &mut worked);
+    end(v, block, message.len() as u64);
 }
 
 // Would n bytes more be too many?

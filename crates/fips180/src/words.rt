@@ -127,7 +127,7 @@ impl<W: Word> Words<W> {
     }
 
     // The block that starts at index at. In place, as all that works blocks: a hash value by value has a place in every frame.
-    pub(crate) fn compress(&mut self, b: &[u8], at: usize)
+    pub fn compress(&mut self, b: &[u8], at: usize)
         requires { at + 16 * W.kind.bytes ≤ length b.now }
         ensures { value_of W.number self.new ≡ step W.kind (value_of W.number self.old) (take (16 * W.kind.bytes) (drop at b.now)) }
     {

@@ -5,9 +5,9 @@ ghost use Rattle.sha256.specs.Running.{most};
 ghost use Rattle.sha256.specs.Begins.{Begins};
 ghost use Rattle.sha256.specs.Sha256.{sha256};
 
-use crate::compress::State;
+use crate::compress::{State, initial, output};
 use crate::running::Hash;
-use fips180::Chain;
+use fips180::Words;
 
 // The most bytes that two blocks hold before the padding: it has one byte for the one bit, and eight for the length.
 const ROOM: usize = 119;
@@ -16,9 +16,9 @@ impl State {
     pub fn of_block(b: [u8; 64]) -> State
         ensures { Begins result b }
     {
-        let mut s = State::initial();
-        fips180::begin(&mut s, &b);
-        s
+        let mut v = initial();
+        v.compress(&b, 0);
+        State::from(v)
     }
 
     // The digest of the block and of a, b and c after it.
@@ -39,23 +39,25 @@ impl State {
 
     // The digest of the block and of a, b and c after it, where two blocks have room for them and the padding: so it is with every HMAC of
     // the PRF.
-    pub fn ended_short(mut self, a: &[u8], b: &[u8], c: &[u8]) -> [u8; 32]
+    pub fn ended_short(self, a: &[u8], b: &[u8], c: &[u8]) -> [u8; 32]
         ensures { (k : List ℕ) → Begins self k → length a.now + (length b.now + length c.now) ≤ 119 → result ≡ sha256 (k ++ (a.now ++ (b.now ++ c.now))) }
     {
         if !fips180::fits(ROOM, a, b, c) {
             return [0; 32];
         }
         let mut blocks = [0u8; 128];
-        fips180::end_short(&mut self, &mut blocks, a, b, c);
-        self.output()
+        let mut v = Words::from(self);
+        fips180::end_short(&mut v, &mut blocks, a, b, c);
+        output(v)
     }
 
     // The digest of the block and of the 32 bytes d after it.
-    pub fn ended_by(mut self, d: [u8; 32]) -> [u8; 32]
+    pub fn ended_by(self, d: [u8; 32]) -> [u8; 32]
         ensures { (k : List ℕ) → Begins self k → result ≡ sha256 (k ++ d) }
     {
         let mut block = [0u8; 64];
-        fips180::end_by(&mut self, &mut block, &d);
-        self.output()
+        let mut v = Words::from(self);
+        fips180::end_by(&mut v, &mut block, &d);
+        output(v)
     }
 }

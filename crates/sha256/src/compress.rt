@@ -6,7 +6,7 @@ ghost use Rattle.sha256.specs.Constants.{initial};
 ghost use Rattle.sha256.specs.Compress.{output};
 
 use crate::words::bytes;
-use fips180::{Chain, Words};
+use fips180::Words;
 
 // Eight words: the working variables of the rounds, or the hash value. Contracts speak of them as `Value` of specs/.
 #[repr(C)]
@@ -22,61 +22,59 @@ pub struct State {
     pub h: u32,
 }
 
-impl Chain for State {
-    type Word = u32;
+impl From<State> for Words<u32> {
+    ghost from_gives = { λ s w. value_of_words (λ x. x) w ≡ value_of s };
 
-    ghost value = { value_of };
-
-    ghost first = { initial };
-
-    fn initial() -> State {
-        State {
-            a: 0x6a09e667,
-            b: 0xbb67ae85,
-            c: 0x3c6ef372,
-            d: 0xa54ff53a,
-            e: 0x510e527f,
-            f: 0x9b05688c,
-            g: 0x1f83d9ab,
-            h: 0x5be0cd19,
-        }
-    }
-
-    fn words(self) -> Words<u32> {
+    fn from(s: State) -> Words<u32> {
         Words {
-            a: self.a,
-            b: self.b,
-            c: self.c,
-            d: self.d,
-            e: self.e,
-            f: self.f,
-            g: self.g,
-            h: self.h,
-        }
-    }
-
-    fn of(words: Words<u32>) -> State
-        ensures { value_of result ≡ value_of_words (λ x. x) words }
-    {
-        State {
-            a: words.a,
-            b: words.b,
-            c: words.c,
-            d: words.d,
-            e: words.e,
-            f: words.f,
-            g: words.g,
-            h: words.h,
+            a: s.a,
+            b: s.b,
+            c: s.c,
+            d: s.d,
+            e: s.e,
+            f: s.f,
+            g: s.g,
+            h: s.h,
         }
     }
 }
 
-impl State {
-    pub(crate) fn output(self) -> [u8; 32]
-        ensures { result ≡ output (value_of self) }
-    {
-        bytes([
-            self.a, self.b, self.c, self.d, self.e, self.f, self.g, self.h,
-        ])
+impl From<Words<u32>> for State {
+    ghost from_gives = { λ w s. value_of s ≡ value_of_words (λ x. x) w };
+
+    fn from(w: Words<u32>) -> State {
+        State {
+            a: w.a,
+            b: w.b,
+            c: w.c,
+            d: w.d,
+            e: w.e,
+            f: w.f,
+            g: w.g,
+            h: w.h,
+        }
     }
+}
+
+// The first hash value.
+pub(crate) fn initial() -> Words<u32>
+    ensures { value_of_words (λ x. x) result ≡ initial }
+{
+    Words {
+        a: 0x6a09e667,
+        b: 0xbb67ae85,
+        c: 0x3c6ef372,
+        d: 0xa54ff53a,
+        e: 0x510e527f,
+        f: 0x9b05688c,
+        g: 0x1f83d9ab,
+        h: 0x5be0cd19,
+    }
+}
+
+// The digest of a hash value.
+pub(crate) fn output(w: Words<u32>) -> [u8; 32]
+    ensures { result ≡ output (value_of_words (λ x. x) w) }
+{
+    bytes([w.a, w.b, w.c, w.d, w.e, w.f, w.g, w.h])
 }

@@ -4,8 +4,8 @@ ghost use Rattle.sha256.specs.Running.{Running, taken, most};
 ghost use Rattle.sha256.specs.Sha256.{sha256};
 ghost use Rattle.sha256.specs.Promise.{Absorbs, Takes, digested_of};
 
-use crate::compress::State;
-use fips180::{Chain, MOST};
+use crate::compress::{State, initial, output};
+use fips180::{MOST, Words};
 use refusal::Refusal;
 
 #[repr(C)]
@@ -36,7 +36,7 @@ impl Hash {
     pub fn fresh() -> Hash
         ensures { Running result [] }
     {
-        let state = State::initial();
+        let state = State::from(initial());
         Hash {
             state,
             tail: [0; 64],
@@ -58,7 +58,9 @@ impl Hash {
     {
         let taken = self.length;
         self.length = taken.wrapping_add(bytes.len() as u64);
-        fips180::take(&mut self.state, &mut self.tail, taken, bytes, worked);
+        let mut v = Words::from(self.state);
+        fips180::take(&mut v, &mut self.tail, taken, bytes, worked);
+        self.state = State::from(v);
     }
 
     // The same of a hash by value: the next state.
@@ -96,15 +98,16 @@ impl Hash {
     }
 
     // The padding is laid into the last block, or the last two.
-    pub fn digest(mut self) -> [u8; 32]
+    pub fn digest(self) -> [u8; 32]
         ensures { (m : List ℕ) → Running self m → result ≡ sha256 m }
     {
         if MOST < self.length {
             return [0; 32];
         }
-        let taken = self.length;
-        fips180::end(&mut self.state, &mut self.tail, taken);
-        self.state.output()
+        let mut block = self.tail;
+        let mut v = Words::from(self.state);
+        fips180::end(&mut v, &mut block, self.length);
+        output(v)
     }
 }
 
@@ -120,9 +123,9 @@ pub fn sha256(message: &[u8]) -> Digested
         };
     }
     let mut block = [0u8; 64];
-    let mut state = State::initial();
-    fips180::whole(&mut state, &mut block, message);
-    let digest = state.output();
+    let mut v = initial();
+    fips180::whole(&mut v, &mut block, message);
+    let digest = output(v);
     let refusal = refusal::refuse(0);
     Digested { refusal, digest }
 }

@@ -5,9 +5,9 @@ ghost use Rattle.sha384.specs.Running.{most};
 ghost use Rattle.sha384.specs.Begins.{Begins};
 ghost use Rattle.sha384.specs.Sha384.{sha384};
 
-use crate::compress::State384;
+use crate::compress::{State384, initial, output};
 use crate::running::Hash384;
-use fips180::Chain;
+use fips180::Words;
 
 // The most bytes that two blocks hold before the padding: it has one byte for the one bit, and sixteen for the length.
 const ROOM: usize = 239;
@@ -16,9 +16,9 @@ impl State384 {
     pub fn of_block(b: [u8; 128]) -> State384
         ensures { Begins result b }
     {
-        let mut s = State384::initial();
-        fips180::begin(&mut s, &b);
-        s
+        let mut v = initial();
+        v.compress(&b, 0);
+        State384::from(v)
     }
 
     // The digest of the block and of a, b and c after it.
@@ -39,23 +39,25 @@ impl State384 {
 
     // The digest of the block and of a, b and c after it, where two blocks have room for them and the padding: so it is with every HMAC of
     // the PRF.
-    pub fn ended_short(mut self, a: &[u8], b: &[u8], c: &[u8]) -> [u8; 48]
+    pub fn ended_short(self, a: &[u8], b: &[u8], c: &[u8]) -> [u8; 48]
         ensures { (k : List ℕ) → Begins self k → length a.now + (length b.now + length c.now) ≤ 239 → result ≡ sha384 (k ++ (a.now ++ (b.now ++ c.now))) }
     {
         if !fips180::fits(ROOM, a, b, c) {
             return [0; 48];
         }
         let mut blocks = [0u8; 256];
-        fips180::end_short(&mut self, &mut blocks, a, b, c);
-        self.output()
+        let mut v = Words::from(self);
+        fips180::end_short(&mut v, &mut blocks, a, b, c);
+        output(v)
     }
 
     // The digest of the block and of the 48 bytes d after it.
-    pub fn ended_by(mut self, d: [u8; 48]) -> [u8; 48]
+    pub fn ended_by(self, d: [u8; 48]) -> [u8; 48]
         ensures { (k : List ℕ) → Begins self k → result ≡ sha384 (k ++ d) }
     {
         let mut block = [0u8; 128];
-        fips180::end_by(&mut self, &mut block, &d);
-        self.output()
+        let mut v = Words::from(self);
+        fips180::end_by(&mut v, &mut block, &d);
+        output(v)
     }
 }

@@ -6,7 +6,7 @@ ghost use Rattle.sha384.specs.Constants.{initial};
 ghost use Rattle.sha384.specs.Compress.{output};
 
 use crate::words::bytes;
-use fips180::{Chain, Words};
+use fips180::Words;
 
 // Eight words: the working variables of the rounds, or the hash value. Contracts speak of them as `Value` of specs/.
 #[repr(C)]
@@ -22,60 +22,59 @@ pub struct State384 {
     pub h: u64,
 }
 
-impl Chain for State384 {
-    type Word = u64;
+impl From<State384> for Words<u64> {
+    ghost from_gives = { λ s w. value_of_words (λ x. x) w ≡ value_of s };
 
-    ghost value = { value_of };
-
-    ghost first = { initial };
-
-    fn initial() -> State384 {
-        State384 {
-            a: 0xcbbb9d5dc1059ed8,
-            b: 0x629a292a367cd507,
-            c: 0x9159015a3070dd17,
-            d: 0x152fecd8f70e5939,
-            e: 0x67332667ffc00b31,
-            f: 0x8eb44a8768581511,
-            g: 0xdb0c2e0d64f98fa7,
-            h: 0x47b5481dbefa4fa4,
-        }
-    }
-
-    fn words(self) -> Words<u64> {
+    fn from(s: State384) -> Words<u64> {
         Words {
-            a: self.a,
-            b: self.b,
-            c: self.c,
-            d: self.d,
-            e: self.e,
-            f: self.f,
-            g: self.g,
-            h: self.h,
-        }
-    }
-
-    fn of(words: Words<u64>) -> State384
-        ensures { value_of result ≡ value_of_words (λ x. x) words }
-    {
-        State384 {
-            a: words.a,
-            b: words.b,
-            c: words.c,
-            d: words.d,
-            e: words.e,
-            f: words.f,
-            g: words.g,
-            h: words.h,
+            a: s.a,
+            b: s.b,
+            c: s.c,
+            d: s.d,
+            e: s.e,
+            f: s.f,
+            g: s.g,
+            h: s.h,
         }
     }
 }
 
-impl State384 {
-    // The first six of the eight words.
-    pub(crate) fn output(self) -> [u8; 48]
-        ensures { result ≡ output (value_of self) }
-    {
-        bytes([self.a, self.b, self.c, self.d, self.e, self.f])
+impl From<Words<u64>> for State384 {
+    ghost from_gives = { λ w s. value_of s ≡ value_of_words (λ x. x) w };
+
+    fn from(w: Words<u64>) -> State384 {
+        State384 {
+            a: w.a,
+            b: w.b,
+            c: w.c,
+            d: w.d,
+            e: w.e,
+            f: w.f,
+            g: w.g,
+            h: w.h,
+        }
     }
+}
+
+// The first hash value.
+pub(crate) fn initial() -> Words<u64>
+    ensures { value_of_words (λ x. x) result ≡ initial }
+{
+    Words {
+        a: 0xcbbb9d5dc1059ed8,
+        b: 0x629a292a367cd507,
+        c: 0x9159015a3070dd17,
+        d: 0x152fecd8f70e5939,
+        e: 0x67332667ffc00b31,
+        f: 0x8eb44a8768581511,
+        g: 0xdb0c2e0d64f98fa7,
+        h: 0x47b5481dbefa4fa4,
+    }
+}
+
+// The digest of a hash value.
+pub(crate) fn output(w: Words<u64>) -> [u8; 48]
+    ensures { result ≡ output (value_of_words (λ x. x) w) }
+{
+    bytes([w.a, w.b, w.c, w.d, w.e, w.f])
 }

@@ -4,8 +4,8 @@ ghost use Rattle.sha384.specs.Running.{Running, taken, most};
 ghost use Rattle.sha384.specs.Sha384.{sha384};
 ghost use Rattle.sha384.specs.Promise.{Absorbs, Takes, digested_of};
 
-use crate::compress::State384;
-use fips180::{Chain, MOST};
+use crate::compress::{State384, initial, output};
+use fips180::{MOST, Words};
 use refusal::Refusal;
 
 #[repr(C)]
@@ -36,7 +36,7 @@ impl Hash384 {
     pub fn fresh() -> Hash384
         ensures { Running result [] }
     {
-        let state = State384::initial();
+        let state = State384::from(initial());
         Hash384 {
             state,
             tail: [0; 128],
@@ -58,7 +58,9 @@ impl Hash384 {
     {
         let taken = self.length;
         self.length = taken.wrapping_add(bytes.len() as u64);
-        fips180::take(&mut self.state, &mut self.tail, taken, bytes, worked);
+        let mut v = Words::from(self.state);
+        fips180::take(&mut v, &mut self.tail, taken, bytes, worked);
+        self.state = State384::from(v);
     }
 
     // The same of a hash by value: the next state.
@@ -96,15 +98,16 @@ impl Hash384 {
     }
 
     // The padding is laid into the last block, or the last two.
-    pub fn digest(mut self) -> [u8; 48]
+    pub fn digest(self) -> [u8; 48]
         ensures { (m : List ℕ) → Running self m → result ≡ sha384 m }
     {
         if MOST < self.length {
             return [0; 48];
         }
-        let taken = self.length;
-        fips180::end(&mut self.state, &mut self.tail, taken);
-        self.state.output()
+        let mut block = self.tail;
+        let mut v = Words::from(self.state);
+        fips180::end(&mut v, &mut block, self.length);
+        output(v)
     }
 }
 
@@ -120,9 +123,9 @@ pub fn sha384(message: &[u8]) -> Digested384
         };
     }
     let mut block = [0u8; 128];
-    let mut state = State384::initial();
-    fips180::whole(&mut state, &mut block, message);
-    let digest = state.output();
+    let mut v = initial();
+    fips180::whole(&mut v, &mut block, message);
+    let digest = output(v);
     let refusal = refusal::refuse(0);
     Digested384 { refusal, digest }
 }

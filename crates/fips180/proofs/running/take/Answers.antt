@@ -15,19 +15,19 @@ use Rattle.fips180.proofs.running.take.Goals as goal
 use Rattle.fips180.proofs.running.take.Goals.{then-at-gt0, else-at-gt0}
 
 pub returns-then-n-size : goal.returns-then-n-size
-returns-then-n-size g c =
-    let F = g.S.Word.Word.kind in
+returns-then-n-size g c first =
+    let F = g.W.Word.kind in
     let b = c.args.bytes.now in
     let t = c.args.tail.now in
     let at = c.args.taken % size F in
-    let pos : 0 < size F = omega (arith, g.met.S.Word.Word.narrow.0) in
+    let pos : 0 < size F = omega (arith, g.met.W.Word.narrow.0) in
     let same : c.args.taken % c.block-size.result ≡ at = ap (λ (i : ℕ). c.args.taken % i) c.block-size.ensures in
     let lt : at + length b < size F = omega (arith, same, c.if-n-size.true, c.block-size.ensures) in
     record {
       runs =
           λ m h.
           let e : at ≡ length m % size F = ap (λ (i : ℕ). i % size F) h.counted in
-          holds_more (size F) pos (step F) g.S.Chain.first m b h at 0 (at + length b) e refl (omega (arith, mul-zero (size F))) lt
+          holds_more (size F) pos (step F) first m b h at 0 (at + length b) e refl (omega (arith, mul-zero (size F))) lt
           (after_none (size F) (step F) _ _)
           (c.lay.ensures ∙ ap (λ (i : ℕ). paste t i b (length b)) same ∙ short_tail (size F) pos m b at h.waits e lt ∙ ap (λ (i : ℕ). drop i (take at t ++ b) ++ replicate (size F - (at + length b)) 0) (sym (mul-zero (size F))));
       counts = sym (div-eq_of_lt lt);
@@ -35,13 +35,13 @@ returns-then-n-size g c =
     }
 
 pub returns : goal.returns
-returns g c =
-    let F = g.S.Word.Word.kind in
-    let f = g.S.Word.Word.number in
+returns g c first =
+    let F = g.W.Word.kind in
+    let f = g.W.Word.number in
     let b = c.args.bytes.now in
     let t = c.args.tail.now in
     let at = c.args.taken % size F in
-    let pos : 0 < size F = omega (arith, g.met.S.Word.Word.narrow.0) in
+    let pos : 0 < size F = omega (arith, g.met.W.Word.narrow.0) in
     let same : c.args.taken % c.block-size.result ≡ at = ap (λ (i : ℕ). c.args.taken % i) c.block-size.ensures in
     let left = (length b - c.if-at-gt0.from) % c.block-size.result in
     let lt : at < size F = mod-lt c.args.taken pos in
@@ -57,20 +57,20 @@ returns g c =
       | then-at-gt0 w ↦
           let from : c.if-at-gt0.from ≡ size F - at = omega (arith, w.from-is, same, c.block-size.ensures) in
           let laid : w.lay-then-at-gt0.new.block ≡ paste t at b (size F - at) = w.lay-then-at-gt0.ensures ∙ ap₂ (λ (i n : ℕ). paste t i (take (n - i) b) (length (take (n - i) b))) same c.block-size.ensures ∙ filled_up (size F) at t b enough in
-          let first : value_of f w.compress.new.self ≡ step F (g.S.Chain.value c.args.state.now) (take (size F) (paste t at b (size F - at))) = w.compress.ensures ∙ ap₂ (λ (x : Value) (l : List ℕ). step F x (take (size F) l)) c.words-v.ensures laid in
+          let worked : value_of f w.compress.new.self ≡ step F (value_of g.W.Word.number c.args.v.now) (take (size F) (paste t at b (size F - at))) = w.compress.ensures ∙ ap (λ (l : List ℕ). step F (value_of f c.args.v.now) (take (size F) l)) laid in
           let sum : at + length b ≡ size F * suc q + left = omega (arith, parts, rest, from, mul-suc (size F) q) in
-          takes F g.S.Chain.first b (suc q) left pos sum few
-          (first_block (size F) pos (step F) g.S.Chain.first _ _ _ t b at q c.requires lt (omega arith) first
-          (c.of.ensures ∙ c.blocks-2.ensures.0 ∙ ap₂ (λ (x : Value) (i : ℕ). after (size F) (step F) x q (drop i b)) (ap (value_of f) w.v-is) from))
+          takes F first b (suc q) left pos sum few
+          (first_block (size F) pos (step F) first _ _ _ t b at q c.requires lt (omega arith) worked
+          (c.blocks-2.ensures.0 ∙ ap₂ (λ (x : Value) (i : ℕ). after (size F) (step F) x q (drop i b)) (ap (value_of f) w.v-is) from))
           (c.lay-2.ensures ∙ left_behind (size F) (take at t) b c.fill.new.self (suc q) left (omega (arith, p, sum)) (omega (arith, parts, rest)) zeros)
           (omega arith)
           (omega (arith, c.blocks-2.ensures.1, w.count-is))
       | else-at-gt0 w ↦
           let none : at ≡ 0 = omega (arith, same, w.if-at-gt0.false) in
           let sum : at + length b ≡ size F * q + left = omega (arith, parts, rest, w.from-is, none) in
-          takes F g.S.Chain.first b q left pos sum few
-          (c.of.ensures ∙ c.blocks-2.ensures.0 ∙ ap₂ (λ (x : Value) (i : ℕ). after (size F) (step F) x q (drop i b)) (ap (value_of f) w.v-is ∙ c.words-v.ensures) w.from-is
-          ∙ ap (λ (i : ℕ). after (size F) (step F) (g.S.Chain.value c.args.state.now) q (take i t ++ b)) (sym none))
+          takes F first b q left pos sum few
+          (c.blocks-2.ensures.0 ∙ ap₂ (λ (x : Value) (i : ℕ). after (size F) (step F) x q (drop i b)) (ap (value_of f) w.v-is) w.from-is
+          ∙ ap (λ (i : ℕ). after (size F) (step F) (value_of g.W.Word.number c.args.v.now) q (take i t ++ b)) (sym none))
           (c.lay-2.ensures ∙ left_behind (size F) (take at t) b c.fill.new.self q left (omega (arith, p, sum)) (omega (arith, parts, rest)) zeros)
           (omega arith)
           (omega (arith, c.blocks-2.ensures.1, w.count-is))

@@ -1,9 +1,10 @@
 -- The hash of a whole message, or the refusal.
 -- Assumes nothing.
-use Rattle.std.proofs.Common.{◌≤◌, length, sym, ap, ◌∙◌, arith}
+use Rattle.std.proofs.Common.{◌/◌, ◌≤◌, length, sym, ap, ◌∙◌, arith}
+use Rattle.seqs.specs.Sha2.{Value}
 use Rattle.refusal.specs.Table.{refusal_of}
 use Rattle.sha384.specs.Compress.{output}
-use Rattle.sha384.specs.Sha384.{sha384}
+use Rattle.sha384.specs.Sha384.{sha384, hashed, padded}
 use Rattle.sha384.specs.Running.{most}
 use Rattle.sha384.specs.Laws.{number_over, number_within}
 use Rattle.sha384.proofs.OneShot.{digested, undigested}
@@ -20,4 +21,4 @@ returns c =
     let m = c.args.message.now in
     let w : length m ≤ most = omega arith in
     digested m c.refuse-refusal-2.result (c.refuse-refusal-2.ensures ∙ ap refusal_of (sym (number_within 0 (length m) (omega arith)))) c.output-digest.result w
-    (c.output-digest.ensures ∙ ap output c.whole.ensures)
+    (c.output-digest.ensures ∙ ap output (c.whole.ensures ∙ ap (λ (v : Value). hashed v (length (padded m) / 128) (padded m)) c.initial-v.ensures))

@@ -1,6 +1,7 @@
 -- One block, from the initial hash value.
 -- Assumes nothing.
-use Rattle.std.proofs.Common.{◌≡◌, length, rules}
+use Rattle.std.proofs.Common.{◌≡◌, length, ◌∙◌, ap₂, arith, take_all, rules}
+use Rattle.sha256.specs.Compress.{step}
 use Rattle.sha256.proofs.compress.State.of_block.Goals as goal
 
 pub returns : goal.returns
@@ -8,5 +9,5 @@ returns c =
     let n : length c.args.b ≡ 64 = search rules in
     record {
       whole = n;
-      value = c.begin.ensures;
+      value = c.from.ensures ∙ c.compress.ensures ∙ ap₂ step c.initial-v.ensures (take_all 64 c.args.b (omega arith));
     }

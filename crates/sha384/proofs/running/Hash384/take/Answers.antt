@@ -2,18 +2,19 @@
 -- Assumes nothing.
 use Rattle.std.proofs.Common.{◌∙◌, ap, arith, sym, length-append}
 use Rattle.std.proofs.Math.Nat.{mod-eq_of_lt}
+use Rattle.sha384.specs.Constants.{initial}
 use Rattle.sha384.proofs.Counting.{counts_completed}
 use Rattle.sha384.proofs.running.Hash384.take.Goals as goal
 
 pub returns : goal.returns
 returns c =
-    let t = c.take.ensures in
+    let t = c.take.ensures initial in
     record {
       runs =
           λ m h w.
-          let r = t.runs m h.holds in
+          let r = t.runs m (record { worked = c.from-v.ensures ∙ h.holds.worked; waits = h.holds.waits; counted = h.holds.counted }) in
           record {
-            holds = record { worked = r.worked; waits = r.waits; counted = mod-eq_of_lt (omega (arith, h.holds.counted)) ∙ r.counted };
+            holds = record { worked = c.from-self.ensures ∙ r.worked; waits = r.waits; counted = mod-eq_of_lt (omega (arith, h.holds.counted)) ∙ r.counted };
             bounded = simp length-append (omega arith);
           };
       counts = counts_completed c.args.bytes.now t.counts;

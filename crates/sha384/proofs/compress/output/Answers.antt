@@ -1,7 +1,7 @@
 -- The digest is the bytes of the first six of the eight words.
 -- Assumes nothing.
 use Rattle.sha384.specs.Compress.{output}
-use Rattle.sha384.proofs.compress.State384.output.Goals as goal
+use Rattle.sha384.proofs.compress.output.Goals as goal
 
 pub returns : goal.returns
 unfolding output
