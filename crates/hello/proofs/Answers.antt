@@ -8,7 +8,7 @@ use Prim.Native.Nat.{ℕ, ◌≤◌}
 use native.Mathlib.Omega.{arith}
 use lib.ListN.{length}
 use borrow.Author.Tests.{ne_eqb}
-use Rattle.std.specs.Prelude.{Option, Some, None, Result, Ok, Err}
+use Rattle.std.specs.Prelude.{Result, Ok, Err, ⊤}
 use Rattle.seqs.specs.Cases.{by_test}
 use Rattle.refusal.specs.First.{Fault, first_fault}
 use Rattle.refusal.specs.Table.{refusal_at}
@@ -25,7 +25,7 @@ use Rattle.hello.specs.Extensions.{Extension, twice, repeat_at}
 use Rattle.hello.specs.Fields.{Hello, Form, client_form, server_form, laid_out, Reading, fields, fault, hello_fault, reading_of, read_as, read_client, read_server}
 use Rattle.hello.specs.Places.{client_places, server_places, client_answer, server_answer}
 use Rattle.hello.specs.Cuts.{Broken}
-use Rattle.hello.specs.Entries.{repeat_in}
+use Rattle.hello.specs.Entries.{differ_from}
 use Rattle.hello.specs.declared.client.ClientHello.{ClientHello}
 use Rattle.hello.specs.declared.server.ServerHello.{ServerHello}
 
@@ -79,18 +79,18 @@ fault_of e (malformed q) z = refl
 fault_of e (parsed f) z = rw (ne_eqb e.number 0 z)
 
 -- what a search for a repeat says
-repeat_some : (i q : ℕ) (es : List Extension) → repeat_in i es ≡ Some q → (twice es ≡ true) × (q ≡ repeat_at i es)
-unfolding repeat_in
-repeat_some i q es e =
+repeats : (i : ℕ) (r : Reason) (es : List Extension) → differ_from i es ≡ Err r → (twice es ≡ true) × (r ≡ reason.Repeated (repeat_at i es))
+unfolding differ_from
+repeats i r es e =
     by_test (twice es)
-    (λ t. (t, let z : Some (repeat_at i es) ≡ Some q = rw t at e in cc))
-    (λ t. let z : ◌≡◌ {A = Option ℕ} None (Some q) = rw t at e in cc)
+    (λ t. (t, let z : Err (reason.Repeated (repeat_at i es)) ≡ Err r = rw t at e in cc))
+    (λ t. let z : Ok tt ≡ Err r = rw t at e in cc)
 
-repeat_none : (i : ℕ) (es : List Extension) → repeat_in i es ≡ None → twice es ≡ false
-unfolding repeat_in
-repeat_none i es e =
+differs : (i : ℕ) (u : ⊤) (es : List Extension) → differ_from i es ≡ Ok u → twice es ≡ false
+unfolding differ_from
+differs i u es e =
     by_test (twice es)
-    (λ t. let z : Some (repeat_at i es) ≡ None = rw t at e in cc)
+    (λ t. let z : Err (reason.Repeated (repeat_at i es)) ≡ Ok u = rw t at e in cc)
     (λ t. t)
 
 module _ (R : Reader) (m : List ℕ) where
@@ -133,22 +133,23 @@ module _ (R : Reader) (m : List ℕ) where
     judged : R.form.wrong (R.version h) ≡ R.form.wrong f.version
     judged = ap R.form.wrong (ap R.version p ∙ R.placed f)
 
-    pub out_twice : (q : ℕ) → repeat_in i es ≡ Some q → Refuses (reason.Repeated q)
+    pub out_twice : (r : Reason) → differ_from i es ≡ Err r → Refuses r
     unfolding hello_fault first_fault
-    out_twice q e =
-        let d = repeat_some i q es e in
-        let found : q ≡ repeat_at (R.form.list R.form.start f) f.extensions = d.1 ∙ ap₂ repeat_at place s in
-        refuses (at 2 q) (reason.Repeated q) (rw (t.short, t.stated, t.kind, l, ap twice (sym s) ∙ d.0, found)) (λ z. omega arith) refl
+    out_twice r e =
+        let d = repeats i r es e in
+        let p = repeat_at (R.form.list R.form.start f) f.extensions in
+        let found : r ≡ reason.Repeated p = d.1 ∙ ap reason.Repeated (ap₂ repeat_at place s) in
+        refuses (at 2 p) r (rw (t.short, t.stated, t.kind, l, ap twice (sym s) ∙ d.0) refl) (λ z. omega arith) (ap refusal_for found)
 
-    once : repeat_in i es ≡ None → twice f.extensions ≡ false
-    once e = ap twice (sym s) ∙ repeat_none i es e
+    once : (u : ⊤) → differ_from i es ≡ Ok u → twice f.extensions ≡ false
+    once u e = ap twice (sym s) ∙ differs i u es e
 
-    pub out_version : repeat_in i es ≡ None → R.form.wrong (R.version h) ≡ true → Refuses reason.Version
+    pub out_version : (u : ⊤) → differ_from i es ≡ Ok u → R.form.wrong (R.version h) ≡ true → Refuses reason.Version
     unfolding hello_fault first_fault
-    out_version y v = refuses (at 3 0) reason.Version (rw (t.short, t.stated, t.kind, l, once y, sym judged ∙ v)) (λ z. omega arith) refl
+    out_version u y v = refuses (at 3 0) reason.Version (rw (t.short, t.stated, t.kind, l, once u y, sym judged ∙ v)) (λ z. omega arith) refl
 
-    pub out_fields : repeat_in i es ≡ None → R.form.wrong (R.version h) ≡ false → refused (Ok h) ≡ R.answer (R.reading m)
+    pub out_fields : (u : ⊤) → differ_from i es ≡ Ok u → R.form.wrong (R.version h) ≡ false → refused (Ok h) ≡ R.answer (R.reading m)
     unfolding hello_fault first_fault
-    out_fields y v =
+    out_fields u y v =
         ap Ok p ∙ R.on_fields f
-        ∙ ap R.answer (sym (rw (t.short, t.stated, t.kind, l, once y, sym judged ∙ v)) ∙ R.reads m)
+        ∙ ap R.answer (sym (rw (t.short, t.stated, t.kind, l, once u y, sym judged ∙ v)) ∙ R.reads m)

@@ -1,6 +1,7 @@
 -- The extensions of a list with their places: one step of a walk over them, and what the chains over them find.
 -- Assumes nothing.
 use Rattle.std.proofs.Common.{◌≡◌, refl, sym, ◌∙◌, ap, Bool, true, false, not, ◌||◌, List, [], ◌∷◌, ◌++◌, ℕ, ◌+◌, ◌-◌, ◌≤◌, ◌<◌, eqb, leb, length, take, drop, get_or, arith, Option, Some, None, Result, Ok, Err, option_map, add-one, zero-add}
+use Rattle.std.specs.Prelude.{⊤}
 use Rattle.std.specs.List.{find, list_any, enumerate_from}
 use Rattle.std.specs.Option.{is_some, unwrap_or}
 use Rattle.std.specs.Result.{result_ok}
@@ -18,7 +19,7 @@ use Rattle.hello.specs.Layout.{malformed}
 use Rattle.hello.specs.Extensions.{Extension, shaped, has, twice, repeat_from, known_kind, others_of}
 use Rattle.hello.specs.Places.{part, behind, bytes_at, bytes_part, part_of, size_of}
 use Rattle.hello.specs.Cuts.{Broken, parsed_at, well_formed_at, list_at}
-use Rattle.hello.specs.Entries.{entry_of, entry_at, entries_from, data_in, repeat_in}
+use Rattle.hello.specs.Entries.{entry_of, entry_at, entries_from, data_in, differ_from}
 use Rattle.hello.specs.declared.parts.Part.{Part}
 use Rattle.hello.specs.declared.walk.Entry.{Entry}
 use Rattle.hello.proofs.Lists.{parsed_short, parsed_long, parsed_bad, broken_later, whole_next, step, list_end, size_of_lem}
@@ -245,9 +246,14 @@ pub repeat_end : (all : List Entry) (n : ℕ) → length all ≤ n → first_rep
 unfolding first_repeat
 repeat_end all n h = rw (drop_of_length-le all {i = n} h)
 
+-- why it is refused, if it is
+abbrev pub reason_of : Option Entry → Result ⊤ Reason
+reason_of None = Ok tt
+reason_of (Some e) = Err (reason.Repeated e.at)
+
 -- the same by the extensions' definition, behind some that have the types of `before`
 repeat_behind : (before : List Extension) (b : List Entry) → ((t : ℕ) → list_any (same_kind t) b ≡ has t before) → (at : ℕ) (es : List Extension)
-    → option_map (λ (e : Entry). e.at) (first_repeat b (entries_from at es)) ≡ pick (clash before es || twice es) (Some (repeat_from before at es)) None
+    → reason_of (first_repeat b (entries_from at es)) ≡ pick (clash before es || twice es) (Err (reason.Repeated (repeat_from before at es))) (Ok tt)
 unfolding first_repeat entries_from clash twice repeat_from has
 repeat_behind before b k at [] = refl
 repeat_behind before b k at (e ∷ es) =
@@ -260,6 +266,6 @@ repeat_behind before b k at (e ∷ es) =
     let i = repeat_behind (before ++ e ∷ []) (b ++ x ∷ []) more (at + 4 + length e.content) es in
     rw (p, q, i, clash_more before e es, or_assoc (clash before es) (has e.kind es) (twice es)))
 
-pub repeat_found : (at : ℕ) (es : List Extension) → option_map (λ (e : Entry). e.at) (first_repeat [] (entries_from at es)) ≡ repeat_in at es
-unfolding repeat_in has
+pub repeat_found : (at : ℕ) (es : List Extension) → reason_of (first_repeat [] (entries_from at es)) ≡ differ_from at es
+unfolding differ_from has
 repeat_found at es = repeat_behind [] [] (λ t. refl) at es ∙ (rw (clash_none es))

@@ -1,6 +1,6 @@
 -- The extensions of a list with the places at which they stand.
 -- Assumes nothing.
-use Rattle.std.specs.Prelude.{List, [], ◌∷◌, ℕ, ◌+◌, leb, eqb, length, Option, Some, None, Result, Ok, Err}
+use Rattle.std.specs.Prelude.{List, [], ◌∷◌, ℕ, ◌+◌, leb, eqb, length, Option, Some, None, Result, Ok, Err, ⊤}
 use Rattle.seqs.specs.Pick.{pick}
 use Rattle.refusal.specs.declared.Reason.{Reason}
 use Rattle.refusal.specs.declared.Reason.TheVariants as reason
@@ -32,6 +32,6 @@ unfoldable pub data_in : ℕ → ℕ → List Extension → Option Part
 data_in t at [] = None
 data_in t at (e ∷ es) = pick (eqb e.kind t) (Some (part (at + 4) (length e.content))) (data_in t (at + 4 + length e.content) es)
 
--- the place of the earliest type that repeats one before it
-unfoldable pub repeat_in : ℕ → List Extension → Option ℕ
-repeat_in at es = pick (twice es) (Some (repeat_at at es)) None
+-- the earliest type that repeats one before it, at its place, or none
+unfoldable pub differ_from : ℕ → List Extension → Result ⊤ Reason
+differ_from at es = pick (twice es) (Err (reason.Repeated (repeat_at at es))) (Ok tt)

@@ -14,6 +14,7 @@ use message::{frame_as, pair};
 use refusal::Reason;
 
 // A ClientHello that was read.
+// Kept: C interface.
 #[repr(C)]
 #[derive(Clone, Copy, Default)]
 pub struct ClientHello {
@@ -35,18 +36,14 @@ const LOWEST: u16 = 771;
 // TLS_EMPTY_RENEGOTIATION_INFO_SCSV, 00 ff
 const SIGNAL: u16 = 255;
 
+// Kept: a trait over both readers, with its ghost members and laws, is longer than the steps that they share.
 pub fn read_client_hello(message: &[u8]) -> Result<ClientHello, Reason>
     ensures { refused result ≡ client_answer (read_client message.now) }
 {
     frame_as(message, CLIENT_HELLO)?;
     let hello = lay_client(message, BODY)?;
-    let list = List {
-        message,
-        at: hello.extensions.list.at,
-    };
-    if let Some(place) = list.repeat() {
-        return Err(Reason::Repeated(place));
-    }
+    let at = hello.extensions.list.at;
+    List { message, at }.differ()?;
     if hello.version < LOWEST {
         return Err(Reason::Version);
     }

@@ -3,7 +3,7 @@ ghost use Rattle.std.specs.Prelude.{◌≡◌, true, ◌≤◌, length, MatchRes
 ghost use Rattle.std.specs.Iterator.{YieldsFirst, item_count};
 ghost use Rattle.hello.specs.Extensions.{others_of};
 ghost use Rattle.hello.specs.Cuts.{Broken, parsed_at, well_formed_at, list_at};
-ghost use Rattle.hello.specs.Entries.{entries_from, data_in, repeat_in};
+ghost use Rattle.hello.specs.Entries.{entries_from, data_in, differ_from};
 
 use crate::parts::Part;
 use crate::walk::{EMS, Entry, RI, read_entry, well_shaped};
@@ -38,6 +38,7 @@ impl<'a> List<'a> {
         requires { at ≤ length message.now }
         ensures { MatchResult result (λ l. (l.message.now ≡ message.now) × (l.at ≡ at)) (Broken (parsed_at message.now at)) }
     {
+        // Kept: what the iterator goes over is known to be whole, which is found here.
         let mut end = at;
         while end < message.len() {
             let next = read_entry(message, end)?;
@@ -63,15 +64,15 @@ impl<'a> List<'a> {
         self.any(|e| e.kind != EMS && e.kind != RI)
     }
 
-    // The place of the first type that stands before it too. Each type is compared with all before it, up to the first repeat.
-    pub(crate) fn repeat(self) -> Option<usize>
-        ensures { result ≡ repeat_in self.entry.at (list_at self.entry.message.now self.entry.at) }
+    // No type stands before it too. Each is compared with all before it, up to the first repeat.
+    pub(crate) fn differ(self) -> Result<(), Reason>
+        ensures { result ≡ differ_from self.entry.at (list_at self.entry.message.now self.entry.at) }
     {
         for (n, e) in self.enumerate() {
             if self.take(n).any(|f| f.kind == e.kind) {
-                return Some(e.at);
+                return Err(Reason::Repeated(e.at));
             }
         }
-        None
+        Ok(())
     }
 }

@@ -6,6 +6,7 @@ use crate::parts::Part;
 use crate::walk::read_entry;
 
 // An extension of a message, and the place of what follows it.
+// Kept: C interface.
 #[repr(C)]
 #[derive(Clone, Copy, Default)]
 pub struct Next {

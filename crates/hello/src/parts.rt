@@ -28,6 +28,7 @@ impl Part {
 }
 
 // What a hello says by its extensions. Flags are 0 or 1.
+// Kept: C interface.
 #[repr(C)]
 #[derive(Clone, Copy, Default)]
 pub struct Extensions {

@@ -13,6 +13,7 @@ use message::{byte, frame_as, pair};
 use refusal::Reason;
 
 // A ServerHello that was read.
+// Kept: C interface.
 #[repr(C)]
 #[derive(Clone, Copy, Default)]
 pub struct ServerHello {
@@ -30,18 +31,14 @@ const SERVER_HELLO: u8 = 2;
 // 03 03, TLS 1.2
 const VERSION: u16 = 771;
 
+// Kept: a trait over both readers, with its ghost members and laws, is longer than the steps that they share.
 pub fn read_server_hello(message: &[u8]) -> Result<ServerHello, Reason>
     ensures { refused result ≡ server_answer (read_server message.now) }
 {
     frame_as(message, SERVER_HELLO)?;
     let hello = lay_server(message, BODY)?;
-    let list = List {
-        message,
-        at: hello.extensions.list.at,
-    };
-    if let Some(place) = list.repeat() {
-        return Err(Reason::Repeated(place));
-    }
+    let at = hello.extensions.list.at;
+    List { message, at }.differ()?;
     if hello.version != VERSION {
         return Err(Reason::Version);
     }

@@ -7,6 +7,7 @@ use crate::parts::Part;
 use message::{byte, pair};
 use refusal::Reason;
 
+// Kept: a type is any number of 16 bits, and those that are not known here are handed out too.
 // extended_master_secret, 00 17
 pub(crate) const EMS: usize = 23;
 

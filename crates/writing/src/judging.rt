@@ -7,6 +7,7 @@ ghost use Rattle.writing.specs.Lent.{lent};
 use crate::lists::List;
 use refusal::{Reason, Refusal, refuse};
 
+// Kept: C interface.
 #[repr(C)]
 #[derive(Clone, Copy)]
 pub struct Written {
@@ -35,8 +36,15 @@ impl From<Result<usize, Reason>> for Written {
 }
 
 // Shapes, repeats, version, output: `room` is the output's length. A writer gives no place.
-pub(crate) fn judge(list: List, wrong_version: bool, size: usize, room: usize) -> Result<(), Reason>
-    ensures { result ≡ judged (misshapen (lent list.entry)) (repeats list.entry.types.now) wrong_version (ltb room size) }
+// Inline, since a list that is lent to a call lies in the caller's frame, which has a limit.
+#[inline(always)]
+pub(crate) fn judge(
+    list: &List,
+    wrong_version: bool,
+    size: usize,
+    room: usize,
+) -> Result<(), Reason>
+    ensures { result ≡ judged (misshapen (lent list.now)) (repeats list.now.types.now) wrong_version (ltb room size) }
 {
     if list.is_misshaped() {
         return Err(Reason::Malformed(0));

@@ -5,6 +5,7 @@
 mod client;
 mod judging;
 mod lists;
+mod opening;
 mod places;
 mod server;
 mod sizes;

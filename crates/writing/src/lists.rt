@@ -6,9 +6,11 @@ ghost use Rattle.writing.specs.Steps.{repeats};
 
 use hello::well_shaped;
 
-// The types, the length of each one's data, and all data one after the other. The extensions are handed out one after the other.
+// Whether there is an extension block, the types, the length of each one's data, and all data one after the other. The extensions are
+// handed out one after the other.
 #[derive(Clone, Copy)]
 pub(crate) struct List<'a> {
+    pub block: bool,
     pub types: &'a [u16],
     pub lengths: &'a [u16],
     pub data: &'a [u8],
@@ -27,6 +29,7 @@ impl<'a> Iterator for List<'a> {
         let (length, lengths) = self.lengths.split_first()?;
         let (first, data) = self.data.split_at(*length as usize);
         *self = List {
+            block: self.block,
             types,
             lengths,
             data,
@@ -37,8 +40,13 @@ impl<'a> Iterator for List<'a> {
 
 impl<'a> List<'a> {
     // There is a length for each type, and together they are exactly the data.
-    pub(crate) fn new(types: &'a [u16], lengths: &'a [u16], data: &'a [u8]) -> Option<List<'a>>
-        ensures { MatchOption result (fitting types.now lengths.now «data».now ≡ false) (λ l. (l.types.now ≡ types.now) × (l.lengths.now ≡ lengths.now) × (l.«data».now ≡ «data».now)) }
+    pub(crate) fn new(
+        block: bool,
+        types: &'a [u16],
+        lengths: &'a [u16],
+        data: &'a [u8],
+    ) -> Option<List<'a>>
+        ensures { MatchOption result (fitting types.now lengths.now «data».now ≡ false) (λ l. (l.block ≡ block) × (l.types.now ≡ types.now) × (l.lengths.now ≡ lengths.now) × (l.«data».now ≡ «data».now)) }
     {
         if types.len() != lengths.len() {
             return None;
@@ -51,6 +59,7 @@ impl<'a> List<'a> {
             return None;
         }
         Some(List {
+            block,
             types,
             lengths,
             data,
@@ -65,8 +74,8 @@ impl<'a> List<'a> {
     }
 
     // A type stands twice. Each type is compared with all behind it, up to the first repeat.
-    pub(crate) fn repeats(self) -> bool
-        ensures { result ≡ repeats self.entry.types.now }
+    pub(crate) fn repeats(&self) -> bool
+        ensures { result ≡ repeats self.now.types.now }
     {
         let mut types = self.types;
         while let Some((kind, rest)) = types.split_first() {

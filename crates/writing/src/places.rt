@@ -1,5 +1,6 @@
 // Writing to a place of a lent buffer. Each function answers the place behind what it wrote, but for the extension block, which ends a
 // message, and its list.
+// Kept: a struct of the buffer and the place would have both in each clause all the same.
 ghost use Rattle.std.specs.Prelude.{◌≡◌, true, [], ◌∷◌, ◌++◌, ◌+◌, ◌*◌, ◌-◌, ◌≤◌, ◌<◌, length};
 ghost use Rattle.seqs.specs.Pick.{pick};
 ghost use Rattle.hello.specs.Written.{two_bytes, written_list, written_block};
@@ -10,6 +11,7 @@ ghost use Rattle.writing.specs.Steps.{block_size, vector_of};
 ghost use Rattle.writing.specs.Lent.{lent, list_size};
 
 use crate::lists::List;
+use crate::opening::Opening;
 
 fn put(out: &mut [u8], at: usize, bytes: &[u8]) -> usize
     requires { at + length bytes.now ≤ length out.old }
@@ -52,23 +54,16 @@ pub(crate) fn put_vector(out: &mut [u8], at: usize, bytes: &[u8], high: usize) -
 }
 
 // The header of a message of `size` bytes, version, random and identifier: how both hellos begin.
-pub(crate) fn put_opening(
-    out: &mut [u8],
-    kind: u8,
-    size: usize,
-    version: u16,
-    random: &[u8],
-    identifier: &[u8],
-) -> usize
-    requires { (7 + length random.now + length identifier.now ≤ length out.old) × (4 ≤ size) × (size ≤ 65536) × (length identifier.now ≤ 32) }
-    ensures { (result ≡ 7 + length random.now + length identifier.now) × (out.new ≡ placed out.old 0 ((kind ∷ three_bytes (size - 4)) ++ two_bytes version ++ random.now ++ vector8 identifier.now)) }
+pub(crate) fn put_opening(out: &mut [u8], kind: u8, size: usize, opening: &Opening) -> usize
+    requires { (7 + length opening.now.random.now + length opening.now.identifier.now ≤ length out.old) × (4 ≤ size) × (size ≤ 65536) × (length opening.now.identifier.now ≤ 32) }
+    ensures { (result ≡ 7 + length opening.now.random.now + length opening.now.identifier.now) × (out.new ≡ placed out.old 0 ((kind ∷ three_bytes (size - 4)) ++ two_bytes opening.now.version ++ opening.now.random.now ++ vector8 opening.now.identifier.now)) }
 {
     put_byte(out, 0, kind);
     put_byte(out, 1, 0);
     put_pair(out, 2, size - 4);
-    put_pair(out, 4, version as usize);
-    let at = put(out, 6, random);
-    put_vector(out, at, identifier, 32)
+    put_pair(out, 4, opening.version as usize);
+    let at = put(out, 6, opening.random);
+    put_vector(out, at, opening.identifier, 32)
 }
 
 // An extension: its type, and its data behind their length.
@@ -81,22 +76,22 @@ fn put_extension(out: &mut [u8], at: usize, kind: u16, data: &[u8]) -> usize
 }
 
 // The extensions, one after the other.
-fn put_list(out: &mut [u8], at: usize, list: List)
-    requires { (at + list_size list ≤ length out.old) × (list_size list < 65536) }
-    ensures { out.new ≡ placed out.old at (written_list (lent list.entry)) }
+fn put_list(out: &mut [u8], at: usize, list: &List)
+    requires { (at + list_size list.now ≤ length out.old) × (list_size list.now < 65536) }
+    ensures { out.new ≡ placed out.old at (written_list (lent list.now)) }
 {
     let mut to = at;
-    for (kind, data) in list {
+    for (kind, data) in *list {
         to = put_extension(out, to, kind, data);
     }
 }
 
 // The extension block, if there is one: a length that covers the list, and the list.
-pub(crate) fn put_block(out: &mut [u8], at: usize, block: bool, list: List)
-    requires { (at + block_size block (length list.types.now) (length list.«data».now) ≤ length out.old) × (block_size block (length list.types.now) (length list.«data».now) < 65536) }
-    ensures { out.new ≡ placed out.old at (pick block (written_block (lent list.entry)) []) }
+pub(crate) fn put_block(out: &mut [u8], at: usize, list: &List)
+    requires { (at + block_size list.now.block (length list.now.types.now) (length list.now.«data».now) ≤ length out.old) × (block_size list.now.block (length list.now.types.now) (length list.now.«data».now) < 65536) }
+    ensures { out.new ≡ placed out.old at (pick list.now.block (written_block (lent list.now)) []) }
 {
-    if block {
+    if list.block {
         let from = put_pair(out, at, 4 * list.types.len() + list.data.len());
         put_list(out, from, list);
     }

@@ -4,6 +4,7 @@ ghost use Rattle.writing.specs.Tried.{TriesServer};
 
 use crate::judging::{Written, judge};
 use crate::lists::List;
+use crate::opening::Opening;
 use crate::places::{put_block, put_byte, put_opening, put_pair};
 use crate::sizes::server_size;
 use refusal::Reason;
@@ -13,6 +14,7 @@ const SERVER_HELLO: u8 = 2;
 // 03 03, TLS 1.2
 const VERSION: u16 = 771;
 
+// Kept: C interface, which lends each field and the parts of the list by themselves.
 pub fn write_server_hello(
     version: u16,
     random: &[u8],
@@ -27,41 +29,32 @@ pub fn write_server_hello(
 ) -> Written
     ensures { WritesServer version random.now identifier.now suite compression block types.now lengths.now «data».now out.old out.new result }
 {
-    Written::from(try_server(
+    let opening = Opening {
         version,
         random,
         identifier,
-        suite,
-        compression,
-        block,
-        types,
-        lengths,
-        data,
-        out,
-    ))
+    };
+    let Some(list) = List::new(block, types, lengths, data) else {
+        return Written::from(Err(Reason::Length));
+    };
+    Written::from(try_server(&opening, suite, compression, &list, out))
 }
 
 // How many bytes were written.
 fn try_server(
-    version: u16,
-    random: &[u8],
-    identifier: &[u8],
+    opening: &Opening,
     suite: u16,
     compression: u8,
-    block: bool,
-    types: &[u16],
-    lengths: &[u16],
-    data: &[u8],
+    list: &List,
     out: &mut [u8],
 ) -> Result<usize, Reason>
-    ensures { TriesServer version random.now identifier.now suite compression block types.now lengths.now «data».now out.old out.new result }
+    ensures { TriesServer opening.now.version opening.now.random.now opening.now.identifier.now suite compression list.now.block list.now.types.now list.now.lengths.now list.now.«data».now out.old out.new result }
 {
-    let list = List::new(types, lengths, data).ok_or(Reason::Length)?;
-    let size = server_size(random, identifier, block, &list)?;
-    judge(list, version != VERSION, size, out.len())?;
-    let mut at = put_opening(out, SERVER_HELLO, size, version, random, identifier);
+    let size = server_size(opening, list)?;
+    judge(list, opening.version != VERSION, size, out.len())?;
+    let mut at = put_opening(out, SERVER_HELLO, size, opening);
     at = put_pair(out, at, suite as usize);
     at = put_byte(out, at, compression);
-    put_block(out, at, block, list);
+    put_block(out, at, list);
     Ok(size)
 }

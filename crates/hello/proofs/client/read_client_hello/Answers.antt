@@ -1,6 +1,6 @@
 -- A ClientHello: the header, the layout, then the repeat and the version.
 -- Assumes nothing.
-use Rattle.std.proofs.Common.{sym, ◌∙◌}
+use Rattle.std.proofs.Common.{sym}
 use borrow.Author.Tests.{lt-ltb, le-ltb}
 use Rattle.hello.proofs.Tries.{handed_on}
 use Rattle.hello.proofs.Answers.{client_reader, Typed, typed, out_frame, out_malformed, out_twice, out_version, out_fields}
@@ -26,20 +26,21 @@ returns-in_err-hello c =
     rw (handed_on c.from_residual-in_err-hello.result _ c.from_residual-in_err-hello.ensures.1)
     (out_malformed client_reader _ _ (is_client (goal.at.returns-in_err-hello c).In_ok-frame_as) c.in_err-hello.ensures)
 
-pub returns-in-Some : goal.returns-in-Some
+pub returns-in_err-differ : goal.returns-in_err-differ
 unfolding client_reader
-returns-in-Some c =
+returns-in_err-differ c =
     let l = c.in_ok-hello.ensures in
-    out_twice client_reader _ (is_client (goal.at.returns-in-Some c).In_ok-frame_as) l.1 l.2 l.3.2 l.3.3 _ (sym c.repeat.ensures ∙ c.in-Some.is)
+    rw (handed_on c.from_residual-in_err-differ.result _ c.from_residual-in_err-differ.ensures.1)
+    (out_twice client_reader _ (is_client (goal.at.returns-in_err-differ c).In_ok-frame_as) l.1 l.2 l.3.2 l.3.3 _ (sym c.in_err-differ.ensures))
 
 pub returns-then-hello-lt-LOWEST : goal.returns-then-hello-lt-LOWEST
 unfolding client_reader
 returns-then-hello-lt-LOWEST c =
     let l = c.in_ok-hello.ensures in
-    out_version client_reader _ (is_client (goal.at.returns-then-hello-lt-LOWEST c).In_ok-frame_as) l.1 l.2 l.3.2 l.3.3 (sym c.repeat.ensures ∙ c.in_default.is) (lt-ltb _ 771 c.if-hello-lt-LOWEST.true)
+    out_version client_reader _ (is_client (goal.at.returns-then-hello-lt-LOWEST c).In_ok-frame_as) l.1 l.2 l.3.2 l.3.3 _ (sym c.in_ok-differ.ensures) (lt-ltb _ 771 c.if-hello-lt-LOWEST.true)
 
 pub returns : goal.returns
 unfolding client_reader
 returns c =
     let l = c.in_ok-hello.ensures in
-    out_fields client_reader _ (is_client (goal.at.returns c).In_ok-frame_as) l.1 l.2 l.3.2 l.3.3 (sym c.repeat.ensures ∙ c.in_default.is) (le-ltb _ 771 c.if-hello-lt-LOWEST.false)
+    out_fields client_reader _ (is_client (goal.at.returns c).In_ok-frame_as) l.1 l.2 l.3.2 l.3.3 _ (sym c.in_ok-differ.ensures) (le-ltb _ 771 c.if-hello-lt-LOWEST.false)

@@ -1,6 +1,6 @@
 -- A ServerHello: the header, the layout, then the repeat and the version.
 -- Assumes nothing.
-use Rattle.std.proofs.Common.{sym, ◌∙◌, ap, not}
+use Rattle.std.proofs.Common.{sym, ap, not}
 use borrow.Author.Tests.{eq-eqb, ne_eqb}
 use Rattle.hello.proofs.Tries.{handed_on}
 use Rattle.hello.proofs.Answers.{server_reader, Typed, typed, out_frame, out_malformed, out_twice, out_version, out_fields}
@@ -26,20 +26,21 @@ returns-in_err-hello c =
     rw (handed_on c.from_residual-in_err-hello.result _ c.from_residual-in_err-hello.ensures.1)
     (out_malformed server_reader _ _ (is_server (goal.at.returns-in_err-hello c).In_ok-frame_as) c.in_err-hello.ensures)
 
-pub returns-in-Some : goal.returns-in-Some
+pub returns-in_err-differ : goal.returns-in_err-differ
 unfolding server_reader
-returns-in-Some c =
+returns-in_err-differ c =
     let l = c.in_ok-hello.ensures in
-    out_twice server_reader _ (is_server (goal.at.returns-in-Some c).In_ok-frame_as) l.1 l.2 l.3.2 l.3.3 _ (sym c.repeat.ensures ∙ c.in-Some.is)
+    rw (handed_on c.from_residual-in_err-differ.result _ c.from_residual-in_err-differ.ensures.1)
+    (out_twice server_reader _ (is_server (goal.at.returns-in_err-differ c).In_ok-frame_as) l.1 l.2 l.3.2 l.3.3 _ (sym c.in_err-differ.ensures))
 
 pub returns-then-hello-ne-VERSION : goal.returns-then-hello-ne-VERSION
 unfolding server_reader
 returns-then-hello-ne-VERSION c =
     let l = c.in_ok-hello.ensures in
-    out_version server_reader _ (is_server (goal.at.returns-then-hello-ne-VERSION c).In_ok-frame_as) l.1 l.2 l.3.2 l.3.3 (sym c.repeat.ensures ∙ c.in_default.is) (ap not (ne_eqb _ 771 c.if-hello-ne-VERSION.true))
+    out_version server_reader _ (is_server (goal.at.returns-then-hello-ne-VERSION c).In_ok-frame_as) l.1 l.2 l.3.2 l.3.3 _ (sym c.in_ok-differ.ensures) (ap not (ne_eqb _ 771 c.if-hello-ne-VERSION.true))
 
 pub returns : goal.returns
 unfolding server_reader
 returns c =
     let l = c.in_ok-hello.ensures in
-    out_fields server_reader _ (is_server (goal.at.returns c).In_ok-frame_as) l.1 l.2 l.3.2 l.3.3 (sym c.repeat.ensures ∙ c.in_default.is) (ap not (eq-eqb _ 771 c.if-hello-ne-VERSION.false))
+    out_fields server_reader _ (is_server (goal.at.returns c).In_ok-frame_as) l.1 l.2 l.3.2 l.3.3 _ (sym c.in_ok-differ.ensures) (ap not (eq-eqb _ 771 c.if-hello-ne-VERSION.false))

@@ -1,51 +1,41 @@
 -- Writing a ClientHello: why it is refused, and else the bytes field by field.
 -- Assumes nothing.
-use Rattle.std.proofs.Common.{◌≡◌, sym, ◌∙◌, inr, arith}
-use Rattle.refusal.specs.declared.reason.Reason.TheVariants as reason
+use Rattle.std.proofs.Common.{arith}
 use Rattle.hello.proofs.Tries.{handed_on}
 use Rattle.writing.specs.Messages.{vector8, vector16, client_bytes}
 use Rattle.writing.specs.Promise.{client_of}
-use Rattle.writing.proofs.Writers.{unbounded, unsized, unjudged, Clear, clear, refuses, writes, some_of, none_of}
+use Rattle.writing.proofs.Writers.{unsized, unjudged, Clear, clear, refuses, writes}
 use Rattle.writing.proofs.Hellos.{client_counts, client_bound, message_placed}
 use Rattle.writing.proofs.client.try_client.Goals as goal
-use Rattle.writing.proofs.client.try_client.Goals.{In_ok-judge, In_ok-list}
+use Rattle.writing.proofs.client.try_client.Goals.{In_ok-judge}
 
 -- everything is within its bounds and there is room
 room : (c : In_ok-judge)
     → (let a = c.args in
-    let l = c.in_ok-list.list in
-    Clear _ _ _ _ l.types.now l.lengths.now l.«data».now _ _ (client_counts a.version a.random.now a.identifier.now a.suites.now a.methods.now a.block l.types.now l.lengths.now l.«data».now) a.out.now l.fits c.in_ok-size.size c.in_ok-size.ensures)
+    let l = a.list.now in
+    let p = a.opening.now in
+    Clear _ _ _ _ l.types.now l.lengths.now l.«data».now _ _ (client_counts p.version p.random.now p.identifier.now a.suites.now a.methods.now l.block l.types.now l.lengths.now l.«data».now) a.out.now l.fits c.in_ok-size.size c.in_ok-size.ensures)
 room c =
     let a = c.args in
-    let l = c.in_ok-list.list in
-    clear _ _ _ _ l.types.now l.lengths.now l.«data».now _ _ (client_counts a.version a.random.now a.identifier.now a.suites.now a.methods.now a.block l.types.now l.lengths.now l.«data».now) a.out.now l.fits c.in_ok-size.size c.in_ok-size.ensures _ c.in_ok-judge.ensures
-
--- the lists are those that were lent
-same : (c : In_ok-list) → (let a = c.args in let l = c.in_ok-list.list in (l.types.now ≡ a.types.now) × (l.lengths.now ≡ a.lengths.now) × (l.«data».now ≡ a.«data».now))
-same c = rw (some_of c.new.result reason.Length _ (sym c.ok_or.ensures.value ∙ c.in_ok-list.was)) at c.new.ensures
-
-pub returns-in_err-list : goal.returns-in_err-list
-returns-in_err-list c =
-    let a = c.args in
-    let n = none_of c.new.result reason.Length _ (sym c.ok_or.ensures.value ∙ c.in_err-list.was) in
-    rw (handed_on c.from_residual.result _ c.from_residual.ensures.1, n.1)
-    (refuses _ _ reason.Length (unbounded _ _ _ _ a.types.now a.lengths.now a.«data».now _ _ (client_counts a.version a.random.now a.identifier.now a.suites.now a.methods.now a.block a.types.now a.lengths.now a.«data».now) a.out.now (inr (rw n.0 at c.new.ensures))))
+    let l = a.list.now in
+    let p = a.opening.now in
+    clear _ _ _ _ l.types.now l.lengths.now l.«data».now _ _ (client_counts p.version p.random.now p.identifier.now a.suites.now a.methods.now l.block l.types.now l.lengths.now l.«data».now) a.out.now l.fits c.in_ok-size.size c.in_ok-size.ensures _ c.in_ok-judge.ensures
 
 pub returns-in_err-size : goal.returns-in_err-size
 returns-in_err-size c =
     let a = c.args in
-    let l = c.in_ok-list.list in
-    let e = same (goal.at.returns-in_err-size c).In_ok-list in
-    rw (handed_on c.from_residual-in_err-size.result _ c.from_residual-in_err-size.ensures.1, ← e.0, ← e.1, ← e.2)
-    (refuses _ _ _ (unsized _ _ _ _ l.types.now l.lengths.now l.«data».now _ _ (client_counts a.version a.random.now a.identifier.now a.suites.now a.methods.now a.block l.types.now l.lengths.now l.«data».now) a.out.now l.fits _ c.in_err-size.ensures))
+    let l = a.list.now in
+    let p = a.opening.now in
+    rw (handed_on c.from_residual.result _ c.from_residual.ensures.1)
+    (refuses _ _ _ (unsized _ _ _ _ l.types.now l.lengths.now l.«data».now _ _ (client_counts p.version p.random.now p.identifier.now a.suites.now a.methods.now l.block l.types.now l.lengths.now l.«data».now) a.out.now l.fits _ c.in_err-size.ensures))
 
 pub returns-in_err-judge : goal.returns-in_err-judge
 returns-in_err-judge c =
     let a = c.args in
-    let l = c.in_ok-list.list in
-    let e = same (goal.at.returns-in_err-judge c).In_ok-list in
-    rw (handed_on c.from_residual-in_err-judge.result _ c.from_residual-in_err-judge.ensures.1, ← e.0, ← e.1, ← e.2)
-    (refuses _ _ _ (unjudged _ _ _ _ l.types.now l.lengths.now l.«data».now _ _ (client_counts a.version a.random.now a.identifier.now a.suites.now a.methods.now a.block l.types.now l.lengths.now l.«data».now) a.out.now l.fits _ c.in_ok-size.ensures _ c.in_err-judge.ensures))
+    let l = a.list.now in
+    let p = a.opening.now in
+    rw (handed_on c.from_residual-in_err-judge.result _ c.from_residual-in_err-judge.ensures.1)
+    (refuses _ _ _ (unjudged _ _ _ _ l.types.now l.lengths.now l.«data».now _ _ (client_counts p.version p.random.now p.identifier.now a.suites.now a.methods.now l.block l.types.now l.lengths.now l.«data».now) a.out.now l.fits _ c.in_ok-size.ensures _ c.in_err-judge.ensures))
 
 pub put_opening-at-requires : goal.put_opening-at-requires
 put_opening-at-requires c =
@@ -76,9 +66,8 @@ unfolding client_bytes
 returns c =
     let q = room (goal.at.returns c).In_ok-judge in
     let a = c.args in
-    let l = c.in_ok-list.list in
-    let e = same (goal.at.returns c).In_ok-list in
-    let f = client_of a.version a.random.now a.identifier.now a.suites.now a.methods.now a.block l.types.now l.lengths.now l.«data».now in
-    rw (← e.0, ← e.1, ← e.2)
+    let l = a.list.now in
+    let p = a.opening.now in
+    let f = client_of p.version p.random.now p.identifier.now a.suites.now a.methods.now l.block l.types.now l.lengths.now l.«data».now in
     (writes (client_bytes f) a.out.now c.in_ok-size.size q.answer q.written
     (message_placed f _ (vector16 a.suites.now) (vector8 a.methods.now) a.out.now c.in_ok-size.size c.put_opening-at.result c.put_vector-at.result c.put_vector-at-2.result q.written q.space c.put_opening-at.ensures.0 (omega (arith, c.put_vector-at.ensures.0)) (omega (arith, c.put_vector-at-2.ensures.0)) c.put_opening-at.ensures.1 c.put_vector-at.ensures.1 c.put_vector-at-2.ensures.1 c.put_block.ensures))

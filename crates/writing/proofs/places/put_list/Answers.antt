@@ -17,7 +17,7 @@ taken c = ap (λ (es : List Extension). length (written_list es)) c.in-Some.ensu
 
 pub loop-kind-init : goal.loop-kind-init
 loop-kind-init c =
-    let l = c.args.list in
+    let l = c.args.list.now in
     let n = written_long l.types.now l.lengths.now l.«data».now (fitting_counts l.types.now l.lengths.now l.«data».now l.fits) (fitting_sums l.types.now l.lengths.now l.«data».now l.fits) in
     rw c.into_iter-kind-iterator.ensures.into_iter_gives (record { room = omega (arith, n, c.requires.0); small = omega (arith, n, c.requires.1); written = refl })
 

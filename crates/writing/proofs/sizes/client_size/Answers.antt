@@ -4,20 +4,20 @@ use Rattle.std.proofs.Common.{sym, ap, ◌∙◌, not, arith}
 use Rattle.writing.proofs.Sizing.{opens_bound, offers_bound}
 use Rattle.writing.proofs.sizes.client_size.Goals as goal
 
-pub overflow_add-identifier-2 : goal.overflow_add-identifier-2
-overflow_add-identifier-2 c =
-    let o = opens_bound _ _ (sym c.opens.ensures ∙ ap not c.if-not-opens.false) in
+pub overflow_add-opening-2 : goal.overflow_add-opening-2
+overflow_add-opening-2 c =
+    let o = opens_bound _ _ (sym c.is_bounded.ensures ∙ ap not c.if-not-is_bounded.false) in
     let f = offers_bound _ _ (sym c.offers.ensures ∙ ap not c.if-not-offers.false) in
     omega (arith, o, f)
 
-pub overflow_add-identifier-3 : goal.overflow_add-identifier-3
-overflow_add-identifier-3 c =
-    let o = opens_bound _ _ (sym c.opens.ensures ∙ ap not c.if-not-opens.false) in
+pub overflow_add-opening-3 : goal.overflow_add-opening-3
+overflow_add-opening-3 c =
+    let o = opens_bound _ _ (sym c.is_bounded.ensures ∙ ap not c.if-not-is_bounded.false) in
     let f = offers_bound _ _ (sym c.offers.ensures ∙ ap not c.if-not-offers.false) in
     omega (arith, o, f)
 
 pub whole_size-requires : goal.whole_size-requires
 whole_size-requires c =
-    let o = opens_bound _ _ (sym c.opens.ensures ∙ ap not c.if-not-opens.false) in
+    let o = opens_bound _ _ (sym c.is_bounded.ensures ∙ ap not c.if-not-is_bounded.false) in
     let f = offers_bound _ _ (sym c.offers.ensures ∙ ap not c.if-not-offers.false) in
     omega (arith, o, f)

@@ -4,7 +4,7 @@ use Rattle.std.proofs.Common.{◌≡◌, [], length, take, drop}
 use Rattle.hello.specs.Cuts.{list_at}
 use Rattle.hello.specs.Entries.{entries_from}
 use Rattle.hello.proofs.Entries.{first_repeat}
-use Rattle.hello.proofs.list.List.repeat.Given as goal
+use Rattle.hello.proofs.list.List.differ.Given as goal
 
 abbrev pub invariant-loop-n : goal.invariant-loop-n
 invariant-loop-n l =

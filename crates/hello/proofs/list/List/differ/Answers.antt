@@ -1,6 +1,6 @@
 -- Each turn is one step of the definition: the extensions, with their numbers, and those before one of them.
 -- Assumes nothing.
-use Rattle.std.proofs.Common.{◌≡◌, refl, sym, ◌∙◌, ap, List, [], ◌<◌, length, take, get_or, inl, arith, rules, tests, Some, None, option_map}
+use Rattle.std.proofs.Common.{◌≡◌, refl, sym, ◌∙◌, ap, List, [], ◌<◌, length, take, get_or, inl, arith, rules, tests, Some, None}
 use Rattle.std.specs.List.{list_any}
 use Rattle.std.proofs.lemmas.Iterator.{YieldsList-from_take}
 use Rattle.std.proofs.lemmas.Iterator.Consumers.{YieldsList-at, YieldsList-from_first, YieldsList-from_enumerate, YieldsList-turn, YieldsList-end}
@@ -11,9 +11,9 @@ use Rattle.hello.specs.Cuts.{list_at}
 use Rattle.hello.specs.Entries.{entries_from}
 use Rattle.hello.specs.declared.list.List as rust
 use Rattle.hello.specs.declared.walk.Entry.{Entry}
-use Rattle.hello.proofs.Entries.{entries_fit, numbered, same_kind, first_repeat, repeat_now, repeat_later, repeat_end, repeat_found}
-use Rattle.hello.proofs.list.List.repeat.Goals as goal
-use Rattle.hello.proofs.list.List.repeat.Goals.{After-any}
+use Rattle.hello.proofs.Entries.{entries_fit, numbered, same_kind, first_repeat, repeat_now, repeat_later, repeat_end, reason_of, repeat_found}
+use Rattle.hello.proofs.list.List.differ.Goals as goal
+use Rattle.hello.proofs.list.List.differ.Goals.{After-any}
 
 -- the list's extensions
 abbrev all_of : rust.List → List Entry
@@ -49,7 +49,7 @@ returns-then-any c =
     let s = c.args.self in
     let t = turned d in
     let f : first_repeat [] (all_of s) ≡ Some c.in-Some.e = c.loop-n.invariant ∙ repeat_now (all_of s) _ c.in-Some.e t.1 t.2 (sym (before d) ∙ c.if-any.true) in
-    sym (ap (option_map (λ (e : Entry). e.at)) f) ∙ repeat_found s.at (list_at s.message.now s.at)
+    sym (ap reason_of f) ∙ repeat_found s.at (list_at s.message.now s.at)
 
 pub loop-n-preserved : goal.loop-n-preserved
 loop-n-preserved c =
@@ -67,4 +67,4 @@ returns c =
     (ap (λ x. x.count) i ∙ c.enumerate-n-items.ensures.count) in
     let e = YieldsList-end road c.loop-n.yielded _ c.loop-n.yielded_by c.next.result c.next.new.self c.in-None.is c.next.ensures.steps in
     let f : first_repeat [] (all_of s) ≡ None = c.loop-n.invariant ∙ repeat_end (all_of s) _ (omega (arith, e.1, length-enumerate_from 0 (all_of s))) in
-    sym (ap (option_map (λ (e : Entry). e.at)) f) ∙ repeat_found s.at (list_at s.message.now s.at)
+    sym (ap reason_of f) ∙ repeat_found s.at (list_at s.message.now s.at)
