@@ -1,20 +1,20 @@
 -- The answers, by their numbers.
 -- Assumes nothing.
-use mathlib.Core.Path.{◌≡◌}
-use mathlib.Core.Bool.{Bool}
+use mathlib.Core.Path.{◌≡◌, refl}
 use mathlib.Core.List.{List, ◌++◌}
 use Prim.Native.Nat.{ℕ}
-use borrow.Author.Tests.{ne_eqb}
 use lib.ListN.{length, drop, replicate}
+use Rattle.std.specs.Prelude.{⊤, Result, Err}
 use Rattle.refusal.specs.Table.{refusal_of}
+use Rattle.refusal.specs.Reason.{refusal_for, refusal_in}
+use Rattle.refusal.specs.declared.reason.Reason.{Reason}
+use Rattle.refusal.specs.declared.reason.Reason.TheVariants.{Length}
 use Rattle.refusal.specs.declared.Refusal.{Refusal}
 use Rattle.prf.specs.Hash.{HashFunction, SHA256, SHA384}
 use Rattle.prf.specs.Hmac.{hmac}
-use Rattle.prf.specs.Secrets.{verify_data}
-use Rattle.prf.specs.Promise.{hmac_number, tag_of, tagged_of, tagged384_of, Derives, verify_number, verified_of}
+use Rattle.prf.specs.Promise.{hmac_number, tag_of, tagged_of, tagged384_of, Derives}
 use Rattle.prf.specs.declared.keyed.Tagged.{Tagged}
-use Rattle.prf.specs.declared.keyed384.Tagged384.{Tagged384}
-use Rattle.prf.specs.declared.secrets.Verified.{Verified}
+use Rattle.prf.specs.declared.keyed.Tagged384.{Tagged384}
 
 -- the tag that goes with a number
 module _ (H : HashFunction) (k m : List ℕ) where
@@ -35,20 +35,15 @@ module _ (k m : List ℕ) {r : Refusal} {t : List ℕ} {number : ℕ} where
   unfolding tagged384_of
   tagged384 e n p = rw (e, p, n)
 
-module _ (secret entry : List ℕ) {number n : ℕ} {r : Refusal} (e : n ≡ number) where
-  pub derived : {exit : List ℕ} → r ≡ refusal_of 0 → n ≡ 0 → exit ≡ secret ++ drop 48 entry → Derives number secret entry exit r
-  derived h z p = rw (← e, z) (record { refusal = h; written = p })
+-- the only reason of a call for its lengths
+pub by_length : {r : Refusal} {reason : Reason} → r ≡ refusal_for reason → reason ≡ Length → r ≡ refusal_of 10
+unfolding refusal_of
+by_length h e = rw e at h
 
-  pub underived : r ≡ refusal_of n → (n ≡ 0 → ⊥) → Derives number secret entry entry r
-  underived h z = rw (← e) (record { refusal = h; written = rw (ne_eqb n 0 z) })
+module _ {number : ℕ} (secret entry : List ℕ) where
+  pub derived : {exit : List ℕ} → number ≡ 0 → exit ≡ secret ++ drop 48 entry → Derives number secret entry exit (refusal_of 0)
+  derived z p = rw z (record { refusal = refl; written = p })
 
-module _ (H : HashFunction) (secret hash : List ℕ) (server : Bool) (r : Refusal) where
-  pub verified : (v : List ℕ) → r ≡ refusal_of 0 → verify_number (length secret) ≡ 0 → v ≡ verify_data H secret server hash
-      → ◌≡◌ {A = Verified} (record { refusal = r; value = v }) (verified_of H secret server hash)
-  unfolding verified_of
-  verified v e n p = rw (n, e, p)
-
-  pub unverified : r ≡ refusal_of 10 → verify_number (length secret) ≡ 10
-      → ◌≡◌ {A = Verified} (record { refusal = r; value = replicate 12 0 }) (verified_of H secret server hash)
-  unfolding verified_of
-  unverified e n = rw (n, e)
+  pub underived : {r : Result ⊤ Reason} → number ≡ 10 → r ≡ Err Length → Derives number secret entry entry (refusal_in r)
+  unfolding refusal_of
+  underived z e = rw (z, e) (record { refusal = refl; written = refl })

@@ -2,26 +2,23 @@
 -- Assumes nothing.
 use mathlib.Core.Path.{◌≡◌, ◌∙◌, ap}
 use mathlib.Core.List.{List, ◌++◌}
-use Prim.Native.Nat.{ℕ, ◌-◌, ◌≤◌, ◌<◌}
-use native.Mathlib.Omega.{arith}
+use Prim.Native.Nat.{ℕ, ◌≤◌, ◌<◌}
 use borrow.Author.Tests.{lt-ltb, le-ltb}
-use lib.ListN.{length, replicate}
-use Rattle.prf.specs.Hash.{HashFunction, Lawful}
+use lib.ListN.{length, drop, replicate}
+use Rattle.seqs.proofs.Zeros.{drop-zeros}
+use Rattle.prf.specs.Hash.{HashFunction}
 use Rattle.prf.specs.Hmac.{shortened, key_block, mask, inner_key, outer_key, hmac}
 use Rattle.prf.specs.Keyed.{Keys}
 
--- a digest fits a block
-pub digest_fits : {H : HashFunction} → Lawful H → {d : List ℕ} (k : List ℕ) → d ≡ H.hash k → length d ≤ H.block
-digest_fits L k e = rw e (omega (arith, L.long k, L.fits))
-
 module _ (H : HashFunction) (k : List ℕ) where
-  pub block_long : {d r : List ℕ} → H.block < length k → d ≡ H.hash k → r ≡ d ++ replicate (H.block - length d) 0 → r ≡ key_block H k
+  -- n bytes put to the front of a block of zeros: the digest of a long key, or the key
+  pub block_long : {d r : List ℕ} (n : ℕ) → n ≡ length d → H.block < length k → d ≡ H.hash k → r ≡ d → r ++ drop n (replicate H.block 0) ≡ key_block H k
   unfolding key_block shortened
-  block_long h e p = rw (lt-ltb H.block (length k) h, ← e) p
+  block_long n q h e p = rw (lt-ltb H.block (length k) h, p, q, drop-zeros, e)
 
-  pub block_short : {r : List ℕ} → length k ≤ H.block → r ≡ k ++ replicate (H.block - length k) 0 → r ≡ key_block H k
+  pub block_short : {r : List ℕ} → length k ≤ H.block → r ≡ k → r ++ drop (length k) (replicate H.block 0) ≡ key_block H k
   unfolding key_block shortened
-  block_short h p = rw (le-ltb H.block (length k) h) p
+  block_short h p = rw (le-ltb H.block (length k) h, p, drop-zeros)
 
   -- a block b of the key, masked to i and o, which the hash values s and t have taken
   pub keys_taken : {S : Type 0} {Taken : S → List ℕ → Type 0} {s t : S} {b i o : List ℕ} → b ≡ key_block H k → i ≡ mask 0x36 b → o ≡ mask 0x5c b

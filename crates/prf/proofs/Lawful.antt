@@ -2,8 +2,7 @@
 -- Assumes nothing.
 use mathlib.Core.Bool.{Bool, true, false}
 use Rattle.prf.specs.Hash.{hash_by, Lawful}
-use Rattle.prf.proofs.Sha256.{sha256_lawful}
-use Rattle.prf.proofs.Sha384.{sha384_lawful}
+use Rattle.prf.specs.Lawful.{sha256_lawful, sha384_lawful}
 
 pub lawful : (b : Bool) → Lawful (hash_by b)
 lawful true = sha384_lawful

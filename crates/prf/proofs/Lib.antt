@@ -1,5 +1,3 @@
-pub mod Sha256
-pub mod Sha384
 pub mod Lawful
 pub mod Lengths
 pub mod Masks

@@ -11,6 +11,10 @@ pub record HashFunction : Type 0 where
   pub block : ℕ
   pub width : ℕ
 
+-- the hash function h, over blocks and digests of so many bytes
+abbrev pub hash_over : (List ℕ → List ℕ) → ℕ → ℕ → HashFunction
+hash_over h block width = record { hash = h; block = block; width = width }
+
 abbrev pub SHA256 : HashFunction
 SHA256 = record { hash = sha256; block = 64; width = 32 }
 

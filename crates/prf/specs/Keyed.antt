@@ -1,24 +1,19 @@
 -- What the structs of the crate stand for, over a hash H.
 -- Assumes nothing.
 use Rattle.std.specs.Prelude.{◌≡◌, List, ◌++◌, ℕ, suc, ◌*◌, drop}
-use Rattle.sha256.specs.Begins.{Begins}
-use Rattle.sha384.specs.Begins.{Begins as Begins384}
-use Rattle.prf.specs.Hash.{HashFunction, SHA256, SHA384}
+use Rattle.prf.specs.Hash.{HashFunction}
 use Rattle.prf.specs.Hmac.{inner_key, outer_key}
 use Rattle.prf.specs.Prf.{A, expansion}
 use Rattle.prf.specs.declared.keyed.Keyed.{Keyed}
-use Rattle.prf.specs.declared.keyed384.Keyed384.{Keyed384}
 
 -- i and o are hash values that have taken their block of the key k, and nothing else; Taken is the hash's own relation for that
 pub record Keys (H : HashFunction) {S : Type 0} (Taken : S → List ℕ → Type 0) (i o : S) (k : List ℕ) : Type 0 where
   pub inner : Taken i (inner_key H k)
   pub outer : Taken o (outer_key H k)
 
-abbrev pub KeyedBy : Keyed → List ℕ → Type 0
-KeyedBy keyed k = Keys SHA256 Begins keyed.inner keyed.outer k
-
-abbrev pub Keyed384By : Keyed384 → List ℕ → Type 0
-Keyed384By keyed k = Keys SHA384 Begins384 keyed.inner keyed.outer k
+-- keyed has taken the key k, by the hash's own relation Taken
+abbrev pub KeyedBy : (H : HashFunction) {S : Type 0} → (S → List ℕ → Type 0) → Keyed H.block H.width S → List ℕ → Type 0
+KeyedBy H Taken keyed k = Keys H Taken keyed.inner keyed.outer k
 
 -- a is A(i + 1), and the first i parts of the output stand at the front of what was lent, the rest as it was
 pub record ChainedTo (H : HashFunction) (k seed : List ℕ) (i : ℕ) (a entry exit : List ℕ) : Type 0 where

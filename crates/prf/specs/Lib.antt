@@ -1,4 +1,6 @@
 pub mod Hash
+pub mod Lawful
+pub mod Begun
 pub mod Hmac
 pub mod Prf
 pub mod Secrets

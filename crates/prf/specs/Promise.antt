@@ -1,16 +1,27 @@
 -- What the calls promise.
 -- Assumes nothing.
-use Rattle.std.specs.Prelude.{◌≡◌, Bool, not, List, [], ◌∷◌, ◌++◌, ℕ, eqb, ltb, length, drop, replicate}
+use Rattle.std.specs.Prelude.{◌≡◌, Bool, not, List, [], ◌∷◌, ◌++◌, ℕ, ⊤, eqb, ltb, length, drop, replicate, Result, Ok, Err}
 use Rattle.seqs.specs.Pick.{pick}
 use Rattle.refusal.specs.First.{first_of}
 use Rattle.refusal.specs.Table.{refusal_of}
 use Rattle.refusal.specs.declared.Refusal.{Refusal}
+use Rattle.refusal.specs.declared.reason.Reason.{Reason}
+use Rattle.refusal.specs.declared.reason.Reason.TheVariants.{Length}
 use Rattle.prf.specs.Hash.{HashFunction, SHA256, SHA384}
 use Rattle.prf.specs.Hmac.{hmac}
 use Rattle.prf.specs.Secrets.{verify_data}
 use Rattle.prf.specs.declared.keyed.Tagged.{Tagged}
-use Rattle.prf.specs.declared.keyed384.Tagged384.{Tagged384}
-use Rattle.prf.specs.declared.secrets.Verified.{Verified}
+use Rattle.prf.specs.declared.keyed.Tagged384.{Tagged384}
+
+-- inside: a call that is refused for its lengths alone, by its number. With 0 it answers the value, with 10 it is refused
+abbrev pub Answers : {A : Type 0} → Result A Reason → ℕ → A → Type 0
+Answers (Ok x) number value = (number ≡ 0) × (x ≡ value)
+Answers (Err r) number value = (number ≡ 10) × (r ≡ Length)
+
+-- a call that answers nothing else
+abbrev pub Tested : Result ⊤ Reason → ℕ → Type 0
+Tested (Ok _) number = number ≡ 0
+Tested (Err r) number = (number ≡ 10) × (r ≡ Length)
 
 -- 'HMAC at most 65,536 of key and 65,536 of message; more is 10'
 unfoldable pub hmac_number : ℕ → ℕ → ℕ
@@ -41,9 +52,7 @@ pub record Derives (number : ℕ) (secret entry exit : List ℕ) (r : Refusal) :
 unfoldable pub verify_number : ℕ → ℕ
 verify_number secret = first_of ((10, not (eqb secret 48)) ∷ [])
 
--- the value, and zeros in its place where the call is refused
-abbrev pub value_of : HashFunction → List ℕ → Bool → List ℕ → List ℕ
-value_of H secret server hash = pick (eqb (verify_number (length secret)) 0) (verify_data H secret server hash) (replicate 12 0)
-
-unfoldable pub verified_of : HashFunction → List ℕ → Bool → List ℕ → Verified
-verified_of H secret server hash = record { refusal = refusal_of (verify_number (length secret)); value = value_of H secret server hash }
+-- the value, or the refusal
+unfoldable pub verified_of : HashFunction → List ℕ → Bool → List ℕ → Result (List ℕ) Refusal
+verified_of H secret server hash =
+    pick (eqb (verify_number (length secret)) 0) (Ok (verify_data H secret server hash)) (Err (refusal_of (verify_number (length secret))))

@@ -1,12 +1,14 @@
 // HMAC: a key is taken once, into the two hash values that every message under it begins with.
 ghost use Rattle.std.specs.Prelude.{◌≡◌, List, ◌++◌, ℕ, ◌+◌, ◌-◌, ◌≤◌, length, replicate};
-ghost use Rattle.prf.specs.Hash.{SHA256};
+ghost use Rattle.prf.specs.Hash.{hash_over};
 ghost use Rattle.prf.specs.Hmac.{key_block, mask, hmac};
 ghost use Rattle.prf.specs.Keyed.{KeyedBy};
-ghost use Rattle.prf.specs.Promise.{tagged_of};
+ghost use Rattle.prf.specs.Promise.{hmac_number, Answers, tagged_of, tagged384_of};
 
-use refusal::Refusal;
+use crate::begun::Begun;
+use refusal::{Reason, Refusal};
 use sha256::State;
+use sha384::State384;
 
 #[repr(C)]
 #[derive(Clone, Copy)]
@@ -15,100 +17,111 @@ pub struct Tagged {
     pub tag: [u8; 32],
 }
 
+#[repr(C)]
+#[derive(Clone, Copy)]
+pub struct Tagged384 {
+    pub refusal: Refusal,
+    pub tag: [u8; 48],
+}
+
 // The hash values after the two blocks of a key.
 #[derive(Clone, Copy)]
-pub(crate) struct Keyed {
-    pub(crate) inner: State,
-    pub(crate) outer: State,
+pub(crate) struct Keyed<const BLOCK: usize, const DIGEST: usize, H> {
+    pub(crate) inner: H,
+    pub(crate) outer: H,
 }
 
 // The most bytes of a key, and of a message.
 const MOST: usize = 65536;
 
-// The most bytes of a message whose end `ended_short` lays out: every HMAC of the PRF has so few.
-const SHORT: usize = 119;
-
-// k with zeros after it, to a block.
-fn padded(k: &[u8]) -> [u8; 64]
-    requires { length k.now ≤ 64 }
-    ensures { result ≡ k.now ++ replicate (64 - length k.now) 0 }
-{
-    let mut b = [0u8; 64];
-    octets::put(&mut b, k);
-    b
-}
-
-// The key, or the digest of a key that is longer than a block.
-fn key_block(key: &[u8]) -> [u8; 64]
+// The key, or the digest of a key that is longer than a block, and zeros after it.
+fn key_block<const BLOCK: usize, const DIGEST: usize, H: Begun<BLOCK, DIGEST>>(
+    key: &[u8],
+) -> [u8; BLOCK]
     requires { length key.now ≤ 65536 }
-    ensures { result ≡ key_block SHA256 key.now }
+    ensures { result ≡ key_block (hash_over H.hash BLOCK DIGEST) key.now }
 {
-    if 64 < key.len() {
-        let hashed = sha256::sha256(key);
-        let digest = hashed.digest;
-        return padded(&digest);
+    let mut block = [0u8; BLOCK];
+    if BLOCK < key.len() {
+        block[..DIGEST].copy_from_slice(&H::digest_of(key));
+    } else {
+        block[..key.len()].copy_from_slice(key);
     }
-    padded(key)
+    block
 }
 
-fn masked(b: [u8; 64], x: u8) -> [u8; 64]
-    ensures { result ≡ mask x b }
+fn masked<const BLOCK: usize>(mut block: [u8; BLOCK], x: u8) -> [u8; BLOCK]
+    ensures { result ≡ mask x block.entry }
 {
-    let mut r = [0u8; 64];
-    let mut i = 0;
-    while i < 64 {
-        r[i] = b[i] ^ x;
-        i += 1;
+    for v in &mut block {
+        *v ^= x;
     }
-    r
+    block
 }
 
-impl Keyed {
-    pub(crate) fn by(key: &[u8]) -> Keyed
+impl<const BLOCK: usize, const DIGEST: usize, H: Begun<BLOCK, DIGEST>> Keyed<BLOCK, DIGEST, H> {
+    pub(crate) fn by(key: &[u8]) -> Keyed<BLOCK, DIGEST, H>
         requires { length key.now ≤ 65536 }
-        ensures { KeyedBy result key.now }
+        ensures { KeyedBy (hash_over H.hash BLOCK DIGEST) H.begins result key.now }
     {
-        let block = key_block(key);
-        let inner = State::of_block(masked(block, 0x36));
-        let outer = State::of_block(masked(block, 0x5c));
+        let block = key_block::<BLOCK, DIGEST, H>(key);
+        let inner = H::of_block(masked(block, 0x36));
+        let outer = H::of_block(masked(block, 0x5c));
         Keyed { inner, outer }
     }
 
     // The tag of a, b and c, one after the other.
-    pub(crate) fn tag(self, a: &[u8], b: &[u8], c: &[u8]) -> [u8; 32]
+    pub(crate) fn tag(&self, a: &[u8], b: &[u8], c: &[u8]) -> [u8; DIGEST]
         requires { length a.now + (length b.now + length c.now) ≤ 65536 }
-        ensures { (k : List ℕ) → KeyedBy self k → result ≡ hmac SHA256 k (a.now ++ (b.now ++ c.now)) }
+        ensures { (k : List ℕ) → KeyedBy (hash_over H.hash BLOCK DIGEST) H.begins self.now k → result ≡ hmac (hash_over H.hash BLOCK DIGEST) k (a.now ++ (b.now ++ c.now)) }
     {
-        let inner = self.inner;
-        let outer = self.outer;
-        if a.len() + (b.len() + c.len()) <= SHORT {
-            let digest = inner.ended_short(a, b, c);
-            return outer.ended_by(digest);
+        // Two ways, each to its end: where the digests of both met in one place, the frame was larger.
+        if a.len() + (b.len() + c.len()) <= H::SHORT {
+            return self.outer.ended_by(self.inner.ended_short(a, b, c));
         }
-        let digest = inner.ended(a, b, c);
-        outer.ended_by(digest)
+        self.outer.ended_by(self.inner.ended(a, b, c))
     }
+}
+
+// The tag, where key and message are within their bounds.
+fn tag<const BLOCK: usize, const DIGEST: usize, H: Begun<BLOCK, DIGEST>>(
+    key: &[u8],
+    message: &[u8],
+) -> Result<[u8; DIGEST], Reason>
+    ensures { Answers result (hmac_number (length key.now) (length message.now)) (hmac (hash_over H.hash BLOCK DIGEST) key.now message.now) }
+{
+    if MOST < key.len() || MOST < message.len() {
+        return Err(Reason::Length);
+    }
+    Ok(Keyed::<BLOCK, DIGEST, H>::by(key).tag(&[], &[], message))
 }
 
 pub fn hmac(key: &[u8], message: &[u8]) -> Tagged
     ensures { result ≡ tagged_of key.now message.now }
 {
-    if MOST < key.len() {
-        let refusal = refusal::refuse(10);
-        return Tagged {
-            refusal,
+    match tag::<64, 32, State>(key, message) {
+        Ok(tag) => Tagged {
+            refusal: refusal::refuse(0),
+            tag,
+        },
+        Err(reason) => Tagged {
+            refusal: Refusal::from(reason),
             tag: [0; 32],
-        };
+        },
     }
-    if MOST < message.len() {
-        let refusal = refusal::refuse(10);
-        return Tagged {
-            refusal,
-            tag: [0; 32],
-        };
+}
+
+pub fn hmac384(key: &[u8], message: &[u8]) -> Tagged384
+    ensures { result ≡ tagged384_of key.now message.now }
+{
+    match tag::<128, 48, State384>(key, message) {
+        Ok(tag) => Tagged384 {
+            refusal: refusal::refuse(0),
+            tag,
+        },
+        Err(reason) => Tagged384 {
+            refusal: Refusal::from(reason),
+            tag: [0; 48],
+        },
     }
-    let none = &message[..0];
-    let tag = Keyed::by(key).tag(none, none, message);
-    let refusal = refusal::refuse(0);
-    Tagged { refusal, tag }
 }

@@ -17,7 +17,7 @@ is384 : Algorithm → Bool
 is384 sha_256 = false
 is384 sha_384 = true
 
-distinct : {X : Type 0} → sha_256 ≡ sha_384 → X
+pub distinct : {X : Type 0} → sha_256 ≡ sha_384 → X
 unfolding is384
 distinct e = absurd (false≢true (ap is384 e))
 

@@ -1,6 +1,6 @@
 -- What the carried hashes stand for: the bytes that each of them has taken.
 -- Assumes nothing.
-use Rattle.std.specs.Prelude.{◌≡◌, List, [], ℕ}
+use Rattle.std.specs.Prelude.{◌≡◌, List, [], ℕ, eqb}
 use Rattle.seqs.specs.Pick.{pick}
 use Rattle.sha256.specs.Sha256.{sha256}
 use Rattle.sha256.specs.Running as sha256-specs
@@ -17,9 +17,9 @@ choice_number unchosen = 0
 choice_number (chosen sha_256) = 1
 choice_number (chosen sha_384) = 2
 
--- and the one that it has
-unfoldable pub choice_in : Transcript → ℕ
-choice_in t = t.choice
+-- and what is chosen by the one that it has
+unfoldable pub choice_in : Transcript → Choice
+choice_in t = pick (eqb t.choice 1) (chosen sha_256) (pick (eqb t.choice 2) (chosen sha_384) unchosen)
 
 -- what a hash has taken: m, or nothing where it isn't carried, so that it is the fresh one
 abbrev pub taken_by : Choice → Algorithm → List ℕ → List ℕ

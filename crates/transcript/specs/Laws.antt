@@ -88,5 +88,5 @@ blocks_append c a m b d = go (carried c a)
     go false = refl
 
 -- bytes behind which is carried what was
-pub enters_on : {t r : Transcript} {b : List ℕ} {n : ℕ} {worked : Algorithm → ℕ} → EntersTo t b n r worked → n ≡ choice_in t → Enters t b r worked
-enters_on {t} {r} {b} {n} {worked} x e = subst (λ (h : Transcript). Enters t b h worked) (sym (x.stays e)) x.enters
+pub enters_on : {t r : Transcript} {b : List ℕ} {told : Choice} {worked : Algorithm → ℕ} → EntersTo t b told r worked → told ≡ choice_in t → Enters t b r worked
+enters_on {t} {r} {b} {told} {worked} x e = subst (λ (h : Transcript). Enters t b h worked) (sym (x.stays e)) x.enters

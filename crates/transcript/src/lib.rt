@@ -2,25 +2,22 @@
 // laid out.
 #![tactic(auto)]
 
+mod algorithm;
+
 ghost use Rattle.std.specs.Prelude.{◌≡◌, List, [], ℕ, ◌≤◌};
 ghost use Rattle.sha256.specs.Sha256.{sha256};
 ghost use Rattle.sha384.specs.Sha384.{sha384};
 ghost use Rattle.transcript.specs.Choice.{Choice, algorithm_by, algorithm_of};
 ghost use Rattle.transcript.specs.Choice.Algorithm.{sha_256, sha_384};
-ghost use Rattle.transcript.specs.Choice.Choice.{unchosen, chosen};
-ghost use Rattle.transcript.specs.Allowance.{smaller, let_in};
-ghost use Rattle.transcript.specs.Carries.{Carries, choice_number, choice_in};
-ghost use Rattle.transcript.specs.Promise.{EntersTo, each};
+ghost use Rattle.transcript.specs.Choice.Choice.{unchosen};
+ghost use Rattle.transcript.specs.Allowance.{let_in};
+ghost use Rattle.transcript.specs.Carries.{Carries, choice_in};
+ghost use Rattle.transcript.specs.Told.{told_in};
+ghost use Rattle.transcript.specs.Promise.{EntersTo, worked};
 
+pub use algorithm::Algorithm;
 use sha256::Hash;
 use sha384::Hash384;
-
-// What is chosen.
-const UNCHOSEN: u8 = 0;
-
-const SHA256: u8 = 1;
-
-const SHA384: u8 = 2;
 
 #[repr(C)]
 #[derive(Clone, Copy)]
@@ -28,114 +25,110 @@ pub struct Transcript {
     // one that isn't carried is fresh
     pub sha256: Hash,
     pub sha384: Hash384,
-    // 0 for both, 1 for SHA-256 alone, 2 for SHA-384 alone
+    // 1 for SHA-256 alone, 2 for SHA-384 alone, any other byte for both
+    // Kept: C interface, a byte of the C struct Log.
     pub choice: u8,
+}
+
+// How many blocks of each hash were worked.
+#[repr(C)]
+#[derive(Clone, Copy)]
+pub struct Blocks {
+    pub sha256: usize,
+    pub sha384: usize,
 }
 
 impl Transcript {
     pub fn fresh() -> Transcript
         ensures { Carries result unchosen [] }
     {
-        let sha256 = Hash::fresh();
-        let sha384 = Hash384::fresh();
         Transcript {
-            sha256,
-            sha384,
-            choice: UNCHOSEN,
+            sha256: Hash::fresh(),
+            sha384: Hash384::fresh(),
+            choice: 0,
         }
     }
 
-    // What is carried, as a number.
-    pub fn choice(self) -> u8
-        ensures { result ≡ choice_in self }
+    // The hash that is carried alone, once it is chosen.
+    pub fn chosen(&self) -> Option<Algorithm>
+        ensures { told_in result ≡ choice_in self.now }
     {
-        self.choice
-    }
-
-    // The number of a hash that is told.
-    pub fn told(sha384: bool) -> u8
-        ensures { result ≡ choice_number (chosen (algorithm_by sha384)) }
-    {
-        if sha384 { SHA384 } else { SHA256 }
+        match self.choice {
+            1 => Some(Algorithm::Sha256),
+            2 => Some(Algorithm::Sha384),
+            _ => None,
+        }
     }
 
     // Is SHA-384 chosen?
-    pub fn is_sha384(self) -> bool
-        ensures { (c : Choice) (m : List ℕ) → Carries self c m → algorithm_of c ≡ algorithm_by result }
+    pub fn is_sha384(&self) -> bool
+        ensures { (c : Choice) (m : List ℕ) → Carries self.now c m → algorithm_of c ≡ algorithm_by result }
     {
-        self.choice == SHA384
+        self.chosen() == Some(Algorithm::Sha384)
     }
 
     // How many of the bytes that are left an allowance of blocks lets in. Where both are carried SHA-256 has the smaller room.
-    pub fn lets_in(self, allowance: u16, left: usize) -> usize
-        ensures { (result ≤ left) × ((c : Choice) (m : List ℕ) → Carries self c m → result ≡ let_in c allowance m left) }
+    pub fn lets_in(&self, allowance: u16, left: usize) -> usize
+        ensures { (result ≤ left) × ((c : Choice) (m : List ℕ) → Carries self.now c m → result ≡ let_in c allowance m left) }
     {
         let blocks = allowance as usize + 1;
-        if self.choice == SHA384 {
-            return least(128 * blocks - 1 - self.sha384.waiting(), left);
-        }
-        least(64 * blocks - 1 - self.sha256.waiting(), left)
+        let room = if self.is_sha384() {
+            128 * blocks - 1 - self.sha384.waiting()
+        } else {
+            64 * blocks - 1 - self.sha256.waiting()
+        };
+        left.min(room)
     }
 
-    // More bytes, for a caller that knows that there is room, and how many blocks of each hash were worked. Behind them choice says what is
-    // carried: what was, or of both the one that is told, and the other one is given up.
-    pub fn enter(
-        self,
-        bytes: &[u8],
-        choice: u8,
-        worked256: &mut usize,
-        worked384: &mut usize,
-    ) -> Transcript
-        ensures { EntersTo self bytes.now choice result (each worked256.new worked384.new) }
+    // More bytes, for a caller that knows that there is room. Behind them the transcript carries what it did, or of both hashes the one that
+    // is told.
+    pub fn enter(mut self, bytes: &[u8], told: Option<Algorithm>, blocks: &mut Blocks) -> Transcript
+        ensures { EntersTo self bytes.now (told_in told) result (worked blocks.new) }
     {
-        let mut next = self;
-        next.take(bytes, choice, worked256, worked384);
-        next
+        *blocks = self.take(bytes, told);
+        self
     }
 
     // The same where it lies, for a log that keeps it in a place of its own.
-    pub fn take(&mut self, bytes: &[u8], choice: u8, worked256: &mut usize, worked384: &mut usize)
-        ensures { EntersTo self.old bytes.now choice self.new (each worked256.new worked384.new) }
+    pub fn take(&mut self, bytes: &[u8], told: Option<Algorithm>) -> Blocks
+        ensures { EntersTo self.old bytes.now (told_in told) self.new (worked result) }
     {
-        if self.choice == SHA384 {
-            *worked256 = 0;
-            self.sha384.take(bytes, worked384);
-            return;
+        let mut blocks = Blocks {
+            sha256: 0,
+            sha384: 0,
+        };
+        match self.chosen() {
+            Some(Algorithm::Sha256) => self.sha256.take(bytes, &mut blocks.sha256),
+            Some(Algorithm::Sha384) => self.sha384.take(bytes, &mut blocks.sha384),
+            None => {
+                self.sha256.take(bytes, &mut blocks.sha256);
+                self.sha384.take(bytes, &mut blocks.sha384);
+                match told {
+                    Some(Algorithm::Sha256) => {
+                        self.sha384 = Hash384::fresh();
+                        self.choice = u8::from(Algorithm::Sha256);
+                    }
+                    Some(Algorithm::Sha384) => {
+                        self.sha256 = Hash::fresh();
+                        self.choice = u8::from(Algorithm::Sha384);
+                    }
+                    None => {}
+                }
+            }
         }
-        self.sha256.take(bytes, worked256);
-        if self.choice == SHA256 {
-            *worked384 = 0;
-            return;
-        }
-        self.sha384.take(bytes, worked384);
-        if choice == SHA384 {
-            self.sha256 = Hash::fresh();
-            self.choice = SHA384;
-            return;
-        }
-        if choice == SHA256 {
-            self.sha384 = Hash384::fresh();
-            self.choice = SHA256;
-        }
+        blocks
     }
 
-    pub fn digest256(self) -> [u8; 32]
-        ensures { (c : Choice) (m : List ℕ) → Carries self c m → algorithm_of c ≡ sha_256 → result ≡ sha256 m }
+    // Kept: as one function with a trait for the field there are the same two bodies, and a trait besides.
+    pub fn digest256(&self) -> [u8; 32]
+        ensures { (c : Choice) (m : List ℕ) → Carries self.now c m → algorithm_of c ≡ sha_256 → result ≡ sha256 m }
     {
-        let hash = self.sha256;
-        hash.digest()
+        self.sha256.digest()
     }
 
-    pub fn digest384(self) -> [u8; 48]
-        ensures { (c : Choice) (m : List ℕ) → Carries self c m → algorithm_of c ≡ sha_384 → result ≡ sha384 m }
+    pub fn digest384(&self) -> [u8; 48]
+        ensures { (c : Choice) (m : List ℕ) → Carries self.now c m → algorithm_of c ≡ sha_384 → result ≡ sha384 m }
     {
-        let hash = self.sha384;
-        hash.digest()
+        self.sha384.digest()
     }
-}
-
-fn least(room: usize, left: usize) -> usize
-    ensures { result ≡ smaller left room }
-{
-    if room < left { room } else { left }
 }

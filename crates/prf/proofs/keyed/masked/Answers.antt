@@ -1,18 +1,13 @@
--- Each byte of the block, masked.
+-- The bytes before this turn's are masked.
 -- Assumes nothing.
-use mathlib.Core.Path.{refl}
-use native.Mathlib.Omega.{arith}
-use borrow.Author.Rules.{rules}
-use Rattle.prf.proofs.Masks.{masking_none, masking_more, masking_all}
+use Rattle.std.proofs.Common.{rules, bit_xor}
+use Rattle.std.proofs.lemmas.List.Edits.{map_over_more}
+use Rattle.prf.proofs.Masks.{masked_all}
 use Rattle.prf.proofs.keyed.masked.Goals as goal
 
-pub loop-i-init : goal.loop-i-init
-loop-i-init c = masking_none 64 _ c.args.b _ refl
-
-pub loop-i-preserved : goal.loop-i-preserved
-loop-i-preserved c =
-    masking_more 64 c.args.x c.args.b _ c.loop-i.i (search rules) (omega arith) c.loop-i.invariant
+pub loop-v-preserved : goal.loop-v-preserved
+loop-v-preserved g c =
+    map_over_more (λ v. bit_xor v c.args.x) c.args.block c.loop-v.v-items c.loop-v.v-index _ (search rules) c.loop-v.invariant (search rules)
 
 pub returns : goal.returns
-returns c =
-    masking_all 64 c.args.x c.args.b _ c.loop-i.i (search rules) (omega arith) c.loop-i.invariant
+returns g c = masked_all c.args.x c.args.block c.loop-v.v-index (search rules) c.loop-v.invariant

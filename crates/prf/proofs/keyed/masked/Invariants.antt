@@ -1,11 +1,7 @@
--- Each byte of the block, masked.
+-- The bytes before this turn's are masked.
 -- Assumes nothing.
-use Prim.Native.Nat.{◌-◌}
-use Rattle.prf.proofs.Masks.{Masking}
+use Rattle.std.proofs.Common.{◌≡◌, ◌++◌, map, bit_xor, take, drop}
 use Rattle.prf.proofs.keyed.masked.Given as goal
 
-abbrev pub invariant-loop-i : goal.invariant-loop-i
-invariant-loop-i l = Masking 64 l.x l.b l.r l.i
-
-abbrev pub decreases-loop-i : goal.decreases-loop-i
-decreases-loop-i l = 64 - l.i
+abbrev pub invariant-loop-v : goal.invariant-loop-v
+invariant-loop-v g l = l.v-items ≡ map (λ v. bit_xor v l.x) (take l.v-index l.fn.block) ++ drop l.v-index l.fn.block

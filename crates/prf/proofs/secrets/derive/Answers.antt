@@ -1,40 +1,20 @@
 -- Refused by its number, or the first 48 bytes of the output.
 -- Assumes nothing.
-use mathlib.Core.Path.{◌≡◌, sym, ap}
-use mathlib.Core.List.{List, ◌++◌}
-use Prim.Native.Nat.{ℕ}
-use native.Mathlib.Omega.{arith}
-use Prim.Native.Nat.{◌≤◌}
-use lib.ListN.{length, drop}
-use lib.Seq.{length-take-le}
-use Rattle.prf.specs.Hash.{SHA256}
-use Rattle.prf.specs.Prf.{prf}
+use Rattle.std.proofs.Common.{sym, ap, length, drop, ◌++◌, List, ℕ, arith, rules, ◌≤◌, length-take-le}
 use Rattle.prf.proofs.Numbers.{secret_within}
 use Rattle.prf.proofs.Answers.{derived, underived}
 use Rattle.prf.proofs.secrets.derive.Goals as goal
 
-pub returns-then-number-ne0 : goal.returns-then-number-ne0
-returns-then-number-ne0 c =
-    underived _ c.args.out.now c.secret_number-number.ensures c.refuse.ensures c.if-number-ne0.true
-
-pub by-requires : goal.by-requires
-by-requires c = omega (arith, secret_within _ _ _ _ c.secret_number-number.ensures c.if-number-ne0.false)
-
-pub slice_bounds-expand-end : goal.slice_bounds-expand-end
-slice_bounds-expand-end c = omega (arith, secret_within _ _ _ _ c.secret_number-number.ensures c.if-number-ne0.false)
+pub returns-in_err-lengths : goal.returns-in_err-lengths
+returns-in_err-lengths g c = underived _ c.args.out.now c.in_err-lengths.ensures.0 (search rules)
 
 pub slice_bounds-expand-end-2 : goal.slice_bounds-expand-end-2
-slice_bounds-expand-end-2 c =
-    sym (length-take-le _ c.args.out.now (omega (arith, secret_within _ _ _ _ c.secret_number-number.ensures c.if-number-ne0.false)))
-
-pub expand-requires : goal.expand-requires
-expand-requires c =
-    omega (arith, slice_bounds-expand-end-2 c, secret_within _ _ _ _ c.secret_number-number.ensures c.if-number-ne0.false)
+slice_bounds-expand-end-2 g c =
+    sym (length-take-le _ c.args.out.now (omega (arith, secret_within _ _ _ _ c.in_ok-lengths.ensures)))
 
 pub returns : goal.returns
-returns c =
+returns g c =
     let a = c.args in
-    let k = a.pre_master.now in
-    let long : 48 ≤ length a.out.now = omega (arith, secret_within _ _ _ _ c.secret_number-number.ensures c.if-number-ne0.false) in
-    let v : c.expand.new.out ≡ prf SHA256 k a.label.now a.seed.now 48 = rw (length-take-le 48 a.out.now long) at (c.expand.ensures k c.by.ensures) in
-    derived _ a.out.now c.secret_number-number.ensures c.refuse-2.ensures c.if-number-ne0.false (ap (λ (r : List ℕ). r ++ drop 48 a.out.now) v)
+    let long : 48 ≤ length a.out.now = omega (arith, secret_within _ _ _ _ c.in_ok-lengths.ensures) in
+    derived _ a.out.now {exit = c.expand.new.out ++ drop 48 a.out.now} c.in_ok-lengths.ensures
+    (ap (λ (r : List ℕ). r ++ drop 48 a.out.now) (rw (length-take-le 48 a.out.now long) at (c.expand.ensures a.pre_master.now c.by-keyed.ensures)))

@@ -1,40 +1,38 @@
 -- By what is chosen: one hash takes the bytes, or both, and behind them what is told is chosen.
 -- Assumes nothing.
-use Rattle.transcript.proofs.Entering.{enters_384, enters_256, enters_both, goes_on, untold, chooses_256, chooses_384}
+use Rattle.std.proofs.Common.{rules}
+use Rattle.transcript.proofs.Entering.{enters_384, enters_256, enters_both, goes_on, untold, chooses_256, chooses_384, chosen_256, chosen_384, unchosen_in}
 use Rattle.transcript.proofs.Transcript.take.Goals as goal
 
-pub returns-then-self-eq-SHA384 : goal.returns-then-self-eq-SHA384
-returns-then-self-eq-SHA384 c =
+pub returns-in-Some-Sha256 : goal.returns-in-Some-Sha256
+returns-in-Some-Sha256 c =
     let a = c.args in
-    let e = c.if-self-eq-SHA384.true in
-    goes_on _ _ _ _ _ (enters_384 a.self.now a.bytes.now _ _ c.take.ensures e) 1 e
+    let e = chosen_256 a.self.now (search rules) in
+    goes_on _ _ _ _ _ (enters_256 a.self.now a.bytes.now _ _ c.take.ensures e) 0 e
 
-pub returns-then-self-eq-SHA256 : goal.returns-then-self-eq-SHA256
-returns-then-self-eq-SHA256 c =
+pub returns-in-Some-Sha384 : goal.returns-in-Some-Sha384
+returns-in-Some-Sha384 c =
     let a = c.args in
-    let e = c.if-self-eq-SHA256.true in
-    goes_on _ _ _ _ _ (enters_256 a.self.now a.bytes.now _ _ c.take-2.ensures e) 0 e
+    let e = chosen_384 a.self.now (search rules) in
+    goes_on _ _ _ _ _ (enters_384 a.self.now a.bytes.now _ _ c.take-in-Some-Sha384.ensures e) 1 e
 
-pub returns-then-choice-eq-SHA384 : goal.returns-then-choice-eq-SHA384
-returns-then-choice-eq-SHA384 c =
+pub returns-in-Some-Sha256-told : goal.returns-in-Some-Sha256-told
+returns-in-Some-Sha256-told c =
     let a = c.args in
-    let o = c.if-self-eq-SHA256.false in
-    let p = c.if-self-eq-SHA384.false in
-    let b = enters_both a.self.now a.bytes.now _ _ c.take-2.ensures _ _ c.take-3.ensures o p in
-    chooses_384 _ _ _ _ _ b c.if-choice-eq-SHA384.true p _ c.fresh-self.ensures
+    let n = unchosen_in a.self.now c.in-None.ensures in
+    let b = enters_both a.self.now a.bytes.now _ _ c.take-in-None.ensures _ _ c.take-in-None-2.ensures n.0 n.1 in
+    chooses_256 _ _ _ _ _ b (search rules) c.in-None.ensures _ c.fresh-self.ensures _ c.from-self.ensures
 
-pub returns-then-choice-eq-SHA256 : goal.returns-then-choice-eq-SHA256
-returns-then-choice-eq-SHA256 c =
+pub returns-in-Some-Sha384-told : goal.returns-in-Some-Sha384-told
+returns-in-Some-Sha384-told c =
     let a = c.args in
-    let o = c.if-self-eq-SHA256.false in
-    let p = c.if-self-eq-SHA384.false in
-    let b = enters_both a.self.now a.bytes.now _ _ c.take-2.ensures _ _ c.take-3.ensures o p in
-    chooses_256 _ _ _ _ _ b c.if-choice-eq-SHA256.true o _ c.fresh-self-then-choice-eq-SHA256.ensures
+    let n = unchosen_in a.self.now c.in-None.ensures in
+    let b = enters_both a.self.now a.bytes.now _ _ c.take-in-None.ensures _ _ c.take-in-None-2.ensures n.0 n.1 in
+    chooses_384 _ _ _ _ _ b (search rules) c.in-None.ensures _ c.fresh-self-in-Some-Sha384-told.ensures _ c.from-self-in-Some-Sha384-told.ensures
 
-pub returns-else-choice-eq-SHA256 : goal.returns-else-choice-eq-SHA256
-returns-else-choice-eq-SHA256 c =
+pub returns-in-None-told : goal.returns-in-None-told
+returns-in-None-told c =
     let a = c.args in
-    let o = c.if-self-eq-SHA256.false in
-    let p = c.if-self-eq-SHA384.false in
-    let b = enters_both a.self.now a.bytes.now _ _ c.take-2.ensures _ _ c.take-3.ensures o p in
-    untold _ _ _ _ _ b c.if-choice-eq-SHA256.false c.if-choice-eq-SHA384.false
+    let n = unchosen_in a.self.now c.in-None.ensures in
+    let b = enters_both a.self.now a.bytes.now _ _ c.take-in-None.ensures _ _ c.take-in-None-2.ensures n.0 n.1 in
+    untold _ _ _ _ _ b (search rules)

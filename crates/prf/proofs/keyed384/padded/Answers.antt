@@ -1,8 +1,0 @@
--- The key, put to the front of zeros.
--- Assumes nothing.
-use native.Mathlib.Omega.{arith}
-use Rattle.octets.proofs.Places.{put_zeros}
-use Rattle.prf.proofs.keyed384.padded.Goals as goal
-
-pub returns : goal.returns
-returns c = put_zeros c.args.k.now 128 (omega arith) c.put.ensures.1
