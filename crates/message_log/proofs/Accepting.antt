@@ -3,6 +3,7 @@
 use mathlib.Core.Path.{◌≡◌, refl, sym, ◌∙◌, ap}
 use mathlib.Core.Bool.{Bool, true, false, not}
 use mathlib.Core.List.{List, [], ◌∷◌, ◌++◌, append-nil}
+use Rattle.std.proofs.Common.{Option, Some, None, Result, Ok, Err}
 use Prim.Native.Nat.{ℕ, ◌≤◌}
 use native.Mathlib.Omega.{arith}
 use lib.Dec.{eqb}
@@ -23,31 +24,33 @@ use Rattle.message_log.specs.Standing.Standing.{whole, parted}
 use Rattle.message_log.specs.Calls.{misshapen, shape_number, broken_at, out_of_turn, is_finished, accept_number, after_accept}
 use Rattle.message_log.specs.Finish.{Compared}
 use Rattle.message_log.specs.Stands.{Stands, number, hash_number}
-use Rattle.refusal.specs.Listed.{anywhere, numbered_at, row_at, listed_at}
-use Rattle.refusal.specs.declared.Refusal.{Refusal}
+use Rattle.refusal.specs.Listed.{row_number, numbered_at, row_at, listed_at}
+use Rattle.refusal.specs.Reason.{refusal_for, refusal_in}
+use Rattle.refusal.specs.declared.reason.Reason.{Reason}
+use Rattle.refusal.specs.declared.reason.Reason.TheVariants.{OutOfTurn}
 use Rattle.message_log.specs.Promise.{Accepts}
-use Rattle.message_log.specs.Steps.{Judges, InTurn, TurnOf, Entered}
-use Rattle.message_log.specs.declared.shape.Judged.{Judged}
+use Rattle.message_log.specs.Steps.{Judges, InTurn, Leads, TurnOf, Entered}
 use Rattle.message_log.specs.declared.state.Log.{Log}
 use Rattle.message_log.specs.declared.state.Turn.{Turn}
 use Rattle.message_log.proofs.Turns.{due_number}
-use Rattle.message_log.proofs.Messages.{Fine, fine, shape_most}
+use Rattle.message_log.proofs.Reasons.{refuses, out_of_turn_at, done_at}
+use Rattle.message_log.proofs.Messages.{Fine, fine, well_shaped, shape_most}
 use Rattle.message_log.proofs.Chosen.{hash_stands}
 use Rattle.message_log.proofs.Standing.{by_whole, by_parted, far, carried, request_stands, taking_stands}
 
 -- the log that the last bytes of a message have entered, behind those that were taken of it: the message is accepted
-pub last_stands : (log : Log) (s : Standing) (got bytes : List ℕ) (tell : Told) (k p n : ℕ) (r : Log) (worked : Algorithm → ℕ)
-    → Stands log s → entered s ≡ hashed (history_of s) ++ got → InTurn (history_of s) (got ++ bytes) (told tell) k p n
-    → (kind_of (got ++ bytes) ≡ 20 → ⊥) → Entered log bytes k p n 0 r worked
+pub last_stands : (log : Log) (s : Standing) (got bytes : List ℕ) (tell : Told) (t : Turn) (r : Log) (worked : Algorithm → ℕ)
+    → Stands log s → entered s ≡ hashed (history_of s) ++ got → InTurn (history_of s) (got ++ bytes) (told tell) t
+    → (kind_of (got ++ bytes) ≡ 20 → ⊥) → Entered log bytes t 0 r worked
     → Stands r (whole (accepted (history_of s) (got ++ bytes) (told tell)))
 unfolding Compared
-last_stands log s got bytes tell k p n r worked st e t o x =
+last_stands log s got bytes tell t r worked st e i o x =
     let m = got ++ bytes in
     let l = hashed (history_of s) ++ m in
-    let c = carried log s got bytes st e t.size (far log s m (told tell) k p n st t) x.hash worked x.enters in
-    let z : eqb k 20 ≡ false = ne_eqb k 20 (λ q. o (sym t.kind ∙ q)) in
+    let c = carried log s got bytes st e i.size (far log s m (told tell) t st i) x.hash worked x.enters in
+    let z : eqb t.kind 20 ≡ false = ne_eqb t.kind 20 (λ q. o (sym i.kind ∙ q)) in
     let y = x.last refl in
-    taking_stands log s m (told tell) k p n st t r (hash_stands log s m bytes l (told tell) k p n r worked st t x c) y.0
+    taking_stands log s m (told tell) t st i r (hash_stands log s m bytes l (told tell) t r worked st i x c) y.0
     (x.session refl (choice_of (history_of s)) l c) (x.client ∙ (rw z)) (x.server ∙ (rw z)) y.1 (o, st.compared)
 
 -- the number of each way out
@@ -91,110 +94,97 @@ module _ (m : List ℕ) (tell : Told) where
 
 -- the ways out of `turn`
 module _ (log : Log) (m : List ℕ) (tell : Told) where
-  refused_turn : (n k p : ℕ) (r : Refusal) → r ≡ refusal_at n (broken_at m) → n ≤ 11 → (n ≡ 0 → ⊥)
+  refused_turn : (n : ℕ) (r : Reason) → refusal_for r ≡ refusal_at n (broken_at m) → n ≤ 11
       → (kind_of m ≡ 20 → (s : Standing) → accept_number s m tell ≡ n) → ((s : Standing) → Stands log s → accept_number s m tell ≡ n)
-      → TurnOf log m tell (record { refusal = r; kind = k; place = p; sha384 = 0 })
-  refused_turn n k p r d l z e f =
-      let i : r.number ≡ n = numbered_at n (broken_at m) r d in
+      → TurnOf log m tell (Err r)
+  refused_turn n r d l e f =
+      let i : (refusal_for r).number ≡ n = numbered_at n (broken_at m) (refusal_for r) d in
       record {
         within = omega (arith, i, l);
-        placed = row_at n (broken_at m) r d;
+        placed = row_at n (broken_at m) (refusal_for r) d;
         number = λ s st. f s st ∙ sym i;
         fed = λ x s. e x s ∙ sym i;
-        other = λ q. absurd (z (sym i ∙ q));
-        well = λ q. absurd (z (sym i ∙ q));
-        request = λ q. absurd (z (sym i ∙ q));
-        in_turn = λ q. absurd (z (sym i ∙ q));
+        leads = tt;
       }
 
-  module _ (j : Judged) (jd : Judges m j) where
-    shape : j.refusal.number ≡ shape_number m
-    shape = numbered_at (shape_number m) (broken_at m) j.refusal jd.refusal
-
-    pub shape_turn : (j.refusal.number ≡ 0 → ⊥) → TurnOf log m tell (record { refusal = j.refusal; kind = j.kind; place = 0; sha384 = 0 })
-    shape_turn z =
-        let q : shape_number m ≡ 0 → ⊥ = λ e. z (shape ∙ e) in
-        refused_turn (shape_number m) j.kind 0 j.refusal jd.refusal (omega (arith, shape_most m)) q
-        (λ _ s. accept_shape m tell s q) (λ s _. accept_shape m tell s q)
-
-    module _ (z : j.refusal.number ≡ 0) where
-      well : Fine m
-      well = fine m (sym shape ∙ z)
-
-      kind : j.kind ≡ kind_of m
-      kind = jd.kind z
-
-      own : j.refusal ≡ refusal_at j.refusal.number (broken_at m)
-      own = row_at (shape_number m) (broken_at m) j.refusal jd.refusal
-
-      pub between_turn : (r : Refusal) → r ≡ refusal_of 7 → (log.left ≡ 0 → ⊥) → TurnOf log m tell (record { refusal = r; kind = j.kind; place = 0; sha384 = 0 })
-      between_turn r d n =
-          refused_turn 7 j.kind 0 r (d ∙ anywhere 7 (broken_at m) refl) (omega arith) (λ x. omega arith) (accept_finished m tell well)
-          (λ s st. accept_between m tell well s (by_parted log n s st))
-
-      module _ (none : log.left ≡ 0) where
-        pub request_turn : j.kind ≡ 0 → TurnOf log m tell (record { refusal = j.refusal; kind = j.kind; place = 0; sha384 = 0 })
-        request_turn k =
-            record {
-              within = omega (arith, z);
-              placed = own;
-              number =
-                  by_whole log none (λ (s : Standing). accept_number s m tell ≡ j.refusal.number)
-                  (λ h st. accept_request m tell well h (sym kind ∙ k) ∙ sym z);
-              fed = λ x. absurd (omega (arith, kind, k, x));
-              other = λ _ x. omega (arith, kind, k, x);
-              well = λ _. sym shape ∙ z;
-              request = λ _ q. sym kind ∙ q;
-              in_turn = λ _ n. absurd (n k);
-            }
-
-        pub finished_turn : (r : Refusal) → r ≡ refusal_of 7 → j.kind ≡ 20 → TurnOf log m tell (record { refusal = r; kind = j.kind; place = 0; sha384 = 0 })
-        finished_turn r d k =
-            let n : (s : Standing) → accept_number s m tell ≡ 7 = accept_finished m tell well (sym kind ∙ k) in
-            refused_turn 7 j.kind 0 r (d ∙ anywhere 7 (broken_at m) refl) (omega arith) (λ x. omega arith) (λ _. n) (λ s _. n s)
-
-        module _ (k : j.kind ≡ 0 → ⊥) (g : j.kind ≡ 20 → ⊥) (q : ℕ)
-            (e : (p : Place) → log.place ≡ number p → q ≡ number (look j.kind (turns tell.resumes p))) where
-          leads_to : (h : History) → Stands log (whole h) → q ≡ number (look (kind_of m) (turns tell.resumes (place_of h)))
-          leads_to h s = rw (← kind) (e (place_of h) s.place.number)
-
-          there : (h : History) → Stands log (whole h) → is_due (kind_of m) (turns tell.resumes (place_of h)) ≡ not (eqb q 17)
-          there h s = sym (due_number tell.resumes (place_of h) (kind_of m) q (leads_to h s))
-
-          answered : (b : Bool) → not (eqb q 17) ≡ b → (s : Standing) → Stands log s → accept_number s m tell ≡ pick b 0 7
-          answered b x =
-              by_whole log none (λ (s : Standing). accept_number s m tell ≡ pick b 0 7)
-              (λ h s. accept_by m tell well h (λ y. k (kind ∙ y)) (λ y. g (kind ∙ y)) b (there h s ∙ x))
-
-          pub out_turn : (r : Refusal) → r ≡ refusal_of 7 → q ≡ 17 → TurnOf log m tell (record { refusal = r; kind = j.kind; place = q; sha384 = 0 })
-          out_turn r d n =
-              refused_turn 7 j.kind q r (d ∙ anywhere 7 (broken_at m) refl) (omega arith) (λ x. omega arith)
-              (λ x. absurd (g (kind ∙ x))) (answered false (rw n))
-
-          pub other_turn : (q ≡ 17 → ⊥) → (i : ℕ) → i ≡ hash_number tell.hash
-              → TurnOf log m tell (record { refusal = j.refusal; kind = j.kind; place = q; sha384 = i })
-          unfolding tells
-          other_turn n i w =
-              record {
-                within = omega (arith, z);
-                placed = own;
-                number = λ s st. answered true (rw (ne_eqb q 17 n)) s st ∙ sym z;
-                fed = λ x. absurd (g (kind ∙ x));
-                other = λ _ x. g (kind ∙ x);
-                well = λ _. sym shape ∙ z;
-                request = λ _ x. absurd (k x);
-                in_turn =
-                    λ _ _ h s.
-                    record { kind = kind; hashed = k; place = leads_to h s; told = w; due = there h s ∙ (rw (ne_eqb q 17 n)); size = well.longest };
-              }
-
--- the ways out of the call: it hands on the refusal of `turn`
-module _ (log : Log) (m : List ℕ) (tell : Told) (t : Turn) (o : TurnOf log m tell t) where
-  answers : (left : Log) → ((t.refusal.number ≡ 0 → ⊥) → left ≡ log) → ((s : Standing) → Stands log s → Stands left (after_accept s m tell))
-      → Accepts log m tell (record { refusal = t.refusal; log = left })
-  answers left k f =
+  done_turn : (t : Option Turn) → ((s : Standing) → Stands log s → accept_number s m tell ≡ 0) → Leads log m tell t → TurnOf log m tell (Ok t)
+  done_turn t f l =
       record {
-        listed = listed_at t.refusal.number (broken_at m) t.refusal o.placed o.within;
+        within = omega (arith, row_number 0);
+        placed = done_at (broken_at m);
+        number = λ s st. f s st ∙ sym (row_number 0);
+        fed = λ x. absurd (l.other x);
+        leads = l;
+      }
+
+  -- a message that is refused by itself
+  pub shape_turn : (r : Reason) → Judges m (Err r) → TurnOf log m tell (Err r)
+  shape_turn r jd =
+      let n : (refusal_for r).number ≡ shape_number m = numbered_at (shape_number m) (broken_at m) (refusal_for r) jd.refusal in
+      let q : shape_number m ≡ 0 → ⊥ = λ e. refuses r (n ∙ e) in
+      refused_turn (shape_number m) r jd.refusal (omega (arith, shape_most m)) (λ _ s. accept_shape m tell s q) (λ s _. accept_shape m tell s q)
+
+  -- and one that is not, of type k
+  module _ (k : ℕ) (jd : Judges m (Ok k)) where
+    well : Fine m
+    well = fine m (well_shaped m k jd)
+
+    seventh : (kind_of m ≡ 20 → (s : Standing) → accept_number s m tell ≡ 7) → ((s : Standing) → Stands log s → accept_number s m tell ≡ 7)
+        → TurnOf log m tell (Err OutOfTurn)
+    seventh = refused_turn 7 OutOfTurn (out_of_turn_at (broken_at m)) (omega arith)
+
+    pub between_turn : (log.left ≡ 0 → ⊥) → TurnOf log m tell (Err OutOfTurn)
+    between_turn n = seventh (accept_finished m tell well) (λ s st. accept_between m tell well s (by_parted log n s st))
+
+    module _ (none : log.left ≡ 0) where
+      pub request_turn : k ≡ 0 → TurnOf log m tell (Ok None)
+      request_turn z =
+          let e : kind_of m ≡ 0 = sym jd.kind ∙ z in
+          done_turn None
+          (by_whole log none (λ (s : Standing). accept_number s m tell ≡ 0) (λ h st. accept_request m tell well h e))
+          (record { other = λ x. omega (arith, e, x); well = well_shaped m k jd; turn = e })
+
+      pub finished_turn : k ≡ 20 → TurnOf log m tell (Err OutOfTurn)
+      finished_turn e =
+          let n : (s : Standing) → accept_number s m tell ≡ 7 = accept_finished m tell well (sym jd.kind ∙ e) in
+          seventh (λ _. n) (λ s _. n s)
+
+      module _ (z : k ≡ 0 → ⊥) (g : k ≡ 20 → ⊥) (q : ℕ)
+          (e : (p : Place) → log.place ≡ number p → q ≡ number (look k (turns tell.resumes p))) where
+        leads_to : (h : History) → Stands log (whole h) → q ≡ number (look (kind_of m) (turns tell.resumes (place_of h)))
+        leads_to h s = rw (← jd.kind) (e (place_of h) s.place.number)
+
+        there : (h : History) → Stands log (whole h) → is_due (kind_of m) (turns tell.resumes (place_of h)) ≡ not (eqb q 17)
+        there h s = sym (due_number tell.resumes (place_of h) (kind_of m) q (leads_to h s))
+
+        numbered_by : (b : Bool) → not (eqb q 17) ≡ b → (s : Standing) → Stands log s → accept_number s m tell ≡ pick b 0 7
+        numbered_by b x =
+            by_whole log none (λ (s : Standing). accept_number s m tell ≡ pick b 0 7)
+            (λ h s. accept_by m tell well h (λ y. z (jd.kind ∙ y)) (λ y. g (jd.kind ∙ y)) b (there h s ∙ x))
+
+        pub out_turn : q ≡ 17 → TurnOf log m tell (Err OutOfTurn)
+        out_turn n = seventh (λ x. absurd (g (jd.kind ∙ x))) (numbered_by false (rw n))
+
+        pub other_turn : (q ≡ 17 → ⊥) → (i : ℕ) → i ≡ hash_number tell.hash
+            → TurnOf log m tell (Ok (Some (record { kind = k; place = q; sha384 = i })))
+        unfolding tells
+        other_turn n i w =
+            done_turn (Some (record { kind = k; place = q; sha384 = i })) (numbered_by true (rw (ne_eqb q 17 n)))
+            (record {
+              other = λ x. g (jd.kind ∙ x);
+              well = well_shaped m k jd;
+              turn =
+                  λ h s.
+                  record { kind = jd.kind; hashed = z; place = leads_to h s; told = w; due = there h s ∙ (rw (ne_eqb q 17 n)); size = well.longest };
+            })
+
+-- the ways out of the call
+module _ (log : Log) (m : List ℕ) (tell : Told) where
+  answers : (t : Result (Option Turn) Reason) → TurnOf log m tell t → (left : Log) → (((refusal_in t).number ≡ 0 → ⊥) → left ≡ log)
+      → ((s : Standing) → Stands log s → Stands left (after_accept s m tell)) → Accepts log m tell (record { refusal = refusal_in t; log = left })
+  answers t o left k f =
+      record {
+        listed = listed_at (refusal_in t).number (broken_at m) (refusal_in t) o.placed o.within;
         placed = o.placed;
         kept = k;
         fed = λ x s. o.placed ∙ ap (λ (n : ℕ). refusal_at n (broken_at m)) (sym (o.fed x s));
@@ -202,30 +192,30 @@ module _ (log : Log) (m : List ℕ) (tell : Told) (t : Turn) (o : TurnOf log m t
         stands = f;
       }
 
-  pub refused_accepts : (t.refusal.number ≡ 0 → ⊥) → Accepts log m tell (record { refusal = t.refusal; log = log })
+  pub refused_accepts : (r : Reason) → TurnOf log m tell (Err r) → Accepts log m tell (record { refusal = refusal_for r; log = log })
   unfolding after_accept
-  refused_accepts z = answers log (λ _. refl) (λ s st. rw (o.number s st, ne_eqb t.refusal.number 0 z) st)
+  refused_accepts r o = answers (Err r) o log (λ _. refl) (λ s st. rw (o.number s st, ne_eqb (refusal_for r).number 0 (refuses r)) st)
 
-  module _ (z : t.refusal.number ≡ 0) where
+  module _ (t : Option Turn) (o : TurnOf log m tell (Ok t)) where
     -- between parts it is refused
     not_between : (h : History) (p : Part) → Stands log (parted h p) → ⊥
-    not_between h p st = omega (arith, z, o.number (parted h p) st, accept_between m tell (fine m (o.well z)) (parted h p) refl)
+    not_between h p st =
+        omega (arith, row_number 0, o.number (parted h p) st, accept_between m tell (fine m o.leads.well) (parted h p) refl)
 
     taken_by : (left : Log) → ((h : History) → Stands log (whole h) → Stands left (whole (accepted h m (told tell))))
-        → Accepts log m tell (record { refusal = t.refusal; log = left })
+        → Accepts log m tell (record { refusal = refusal_of 0; log = left })
     unfolding after_accept
-    taken_by left f = answers left (λ n. absurd (n z)) go
+    taken_by left f = answers (Ok t) o left (λ n. absurd (n (row_number 0))) go
       where
         go : (s : Standing) → Stands log s → Stands left (after_accept s m tell)
-        go (whole h) st = rw (o.number (whole h) st, z) (f h st)
+        go (whole h) st = rw (o.number (whole h) st, row_number 0) (f h st)
         go (parted h p) st = absurd (not_between h p st)
 
-    pub request_accepts : t.kind ≡ 0 → Accepts log m tell (record { refusal = t.refusal; log = log })
-    request_accepts k = taken_by log (λ h s. request_stands log h m tell s (o.request z k))
+  pub request_accepts : TurnOf log m tell (Ok None) → Accepts log m tell (record { refusal = refusal_of 0; log = log })
+  request_accepts o = taken_by None o log (λ h s. request_stands log h m tell s o.leads.turn)
 
-    pub done_accepts : (left : Log) (worked : Algorithm → ℕ) → (t.kind ≡ 0 → ⊥) → Entered log m t.kind t.place t.sha384 0 left worked
-        → Accepts log m tell (record { refusal = t.refusal; log = left })
-    done_accepts left worked k a =
-        taken_by left
-        (λ h s.
-        last_stands log (whole h) [] m tell t.kind t.place t.sha384 left worked s (sym (append-nil (hashed h))) (o.in_turn z k h s) (o.other z) a)
+  pub done_accepts : (t : Turn) → TurnOf log m tell (Ok (Some t)) → (left : Log) (worked : Algorithm → ℕ) → Entered log m t 0 left worked
+      → Accepts log m tell (record { refusal = refusal_of 0; log = left })
+  done_accepts t o left worked a =
+      taken_by (Some t) o left
+      (λ h s. last_stands log (whole h) [] m tell t left worked s (sym (append-nil (hashed h))) (o.leads.turn h s) o.leads.other a)

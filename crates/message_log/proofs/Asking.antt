@@ -4,11 +4,12 @@ use mathlib.Core.Path.{◌≡◌, refl, sym, ◌∙◌, ap}
 use mathlib.Core.Bool.{Bool, true, false, not, ◌&&◌, ◌||◌}
 use mathlib.Core.Logic.{◌⊎◌, inl, inr}
 use mathlib.Core.List.{List, [], ◌∷◌, ◌++◌}
-use Prim.Native.Nat.{ℕ, ◌≤◌}
+use Prim.Native.Nat.{ℕ, ◌≤◌, ◌<◌}
 use native.Mathlib.Omega.{arith}
 use lib.Dec.{eqb}
 use lib.ListN.{length, replicate, length-replicate}
 use borrow.Author.Tests.{eqb-true, ne_eqb, not-false}
+use mir.Val.{bool_byte}
 use Rattle.seqs.specs.Cases.{by_test, not_both}
 use Rattle.refusal.specs.First.{first_of}
 use Rattle.refusal.proofs.First.{first_zero}
@@ -25,7 +26,7 @@ use Rattle.message_log.specs.History.{History, place_of, hashed, choice_of, sess
 use Rattle.message_log.specs.Standing.{Standing, Part, history_of, between, left_of}
 use Rattle.message_log.specs.Standing.Standing.{whole, parted}
 use Rattle.message_log.specs.Calls.{session_number, session_hash_of, finished_of}
-use Rattle.message_log.specs.Stands.{Stands, Placed, number}
+use Rattle.message_log.specs.Stands.{Stands, number}
 use Rattle.message_log.specs.Promise.{Hashes}
 use Rattle.message_log.specs.Finish.{expected_number, expected_of}
 use Rattle.message_log.specs.Parts.{DoneIsWhole}
@@ -36,20 +37,20 @@ use Rattle.message_log.specs.declared.answers.Expected.{Expected}
 use Rattle.message_log.specs.declared.answers.Finished.{Finished}
 use Rattle.message_log.proofs.Turns.{same_place, resumed_at}
 use Rattle.message_log.proofs.Places.{placed_says, complete_by}
+use Rattle.message_log.proofs.Held.{unexchanged_past}
 use Rattle.message_log.proofs.Chosen.{choice_made, length-session}
-use Rattle.message_log.proofs.Standing.{by_whole, by_parted}
 use Rattle.message_log.proofs.Heads.{kind_front, accepted_due}
 
 -- was a ClientKeyExchange accepted, as the log has it: between parts nothing is told
 abbrev pub Exchanged : Log → Bool → Type 0
 Exchanged log b = (s : Standing) → Stands log s → b ≡ (not (between s) && exchanged (history_of s))
 
-pub exchanged_between : (log : Log) → (log.left ≡ 0 → ⊥) → Exchanged log (eqb log.left 0)
-exchanged_between log e s st = rw (ne_eqb log.left 0 e, by_parted log e s st)
-
-pub exchanged_whole : (log : Log) (b : Bool) → log.left ≡ 0 → ((h : History) → Placed log.place h → b ≡ exchanged h) → Exchanged log b
-exchanged_whole log b e f =
-    by_whole log e (λ (s : Standing). b ≡ (not (between s) && exchanged (history_of s))) (λ h st. f h st.place)
+pub unplaced_exchanged : (log : Log) → 16 < log.place → Exchanged log false
+unplaced_exchanged log l s st = rw (unexchanged_past log.place l (history_of s) st.place) (never (not (between s)))
+  where
+    never : (b : Bool) → false ≡ (b && false)
+    never true = refl
+    never false = refl
 
 module _ (log : Log) (r : Refusal) (b : Bool) (e : Exchanged log b) where
   pub session_given : (n : ℕ) → r ≡ refusal_of 0 → b ≡ true
@@ -99,17 +100,23 @@ module _ (log : Log) where
   resumes : (h : History) → Stands log (whole h) → resumed h ≡ resumed_at log.place
   resumes h s = (placed_says log.place h s.place).resumed
 
-  pub finished_full : log.place ≡ 13
+  finished_full : log.place ≡ 13
       → (s : Standing) → Stands log s → ◌≡◌ {A = Finished} (record { complete = 1; resumed = 0; client = log.client; server = log.server }) (finished_of s)
   unfolding finished_of
   finished_full e (whole h) s = rw (← completes h s, resumes h s, e, s.client, s.server)
   finished_full e (parted h p) s = absurd (done_whole (inl e) h p s)
 
-  pub finished_resumed : log.place ≡ 16
+  finished_resumed : log.place ≡ 16
       → (s : Standing) → Stands log s → ◌≡◌ {A = Finished} (record { complete = 1; resumed = 1; client = log.client; server = log.server }) (finished_of s)
   unfolding finished_of
   finished_resumed e (whole h) s = rw (← completes h s, resumes h s, e, s.client, s.server)
   finished_resumed e (parted h p) s = absurd (done_whole (inr e) h p s)
+
+  -- as the code has it
+  pub finished_done : (r : ℕ) → r ≡ bool_byte (eqb log.place 16) → (log.place ≡ 13) ⊎ (log.place ≡ 16)
+      → (s : Standing) → Stands log s → ◌≡◌ {A = Finished} (record { complete = 1; resumed = r; client = log.client; server = log.server }) (finished_of s)
+  finished_done r f (inl e) s st = rw (f, e) (finished_full e s st)
+  finished_done r f (inr e) s st = rw (f, e) (finished_resumed e s st)
 
   pub finished_not : (log.place ≡ 13 → ⊥) → (log.place ≡ 16 → ⊥)
       → (s : Standing) → Stands log s

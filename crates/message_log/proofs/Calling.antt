@@ -21,8 +21,7 @@ use Rattle.transcript.specs.Choice.{Algorithm}
 use Rattle.transcript.specs.Choice.Algorithm.{sha_256, sha_384}
 use Rattle.transcript.specs.Choice.Choice.{unchosen, chosen}
 use Rattle.prf.specs.Hash.{Lawful}
-use Rattle.prf.proofs.Sha256.{sha256_lawful}
-use Rattle.prf.proofs.Sha384.{sha384_lawful}
+use Rattle.prf.specs.Lawful.{sha256_lawful, sha384_lawful}
 use Rattle.message_log.specs.Suite.{function_of}
 use Rattle.prf.proofs.Lengths.{length_verify}
 use Rattle.message_log.specs.Told.{Told}

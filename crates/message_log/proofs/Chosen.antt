@@ -7,7 +7,8 @@ use Prim.Native.Nat.{ℕ}
 use lib.Dec.{eqb}
 use lib.ListN.{length}
 use borrow.Author.Tests.{eqb-true, eqb-false, not-true, not-false}
-use Rattle.seqs.specs.Flag.{yes, bit}
+use mir.Val.{bool_byte}
+use Rattle.seqs.specs.Flag.{yes}
 use Rattle.seqs.specs.Pick.{pick}
 use Rattle.seqs.specs.Cases.{by_test, not_both, and_left, and_right}
 use Rattle.message.specs.Frame.{kind_of}
@@ -28,16 +29,17 @@ use Rattle.message_log.specs.Orders.{Chosen, SessionWidth, ChoiceMade}
 use Rattle.message_log.specs.Stands.{Stands, number, hash_number}
 use Rattle.message_log.specs.Steps.{InTurn, Entered}
 use Rattle.message_log.specs.declared.state.Log.{Log}
+use Rattle.message_log.specs.declared.state.Turn.{Turn}
 use Rattle.message_log.proofs.Turns.{passes, each_place, chosen_at, exchanged_at, turned}
 use Rattle.message_log.proofs.Places.{placed_says}
 
 -- ---- what is told, in a byte
 
-told_number : (t : Bool) → bit t ≡ hash_number (algorithm_by t)
+told_number : (t : Bool) → bool_byte t ≡ hash_number (algorithm_by t)
 told_number true = refl
 told_number false = refl
 
-pub told_byte : {n : ℕ} (x : ℕ) → n ≡ bit (yes x) → n ≡ hash_number (algorithm_by (yes x))
+pub told_byte : {n : ℕ} (x : ℕ) → n ≡ bool_byte (yes x) → n ≡ hash_number (algorithm_by (yes x))
 told_byte x e = e ∙ told_number (yes x)
 
 told_hash : (a : Algorithm) → algorithm_by (yes (hash_number a)) ≡ a
@@ -125,18 +127,18 @@ choice_made h o e =
 pub none_chosen : (h : History) (resumes : Bool) → in_order h ≡ true → is_due 2 (turns resumes (place_of h)) ≡ true → choice_of h ≡ unchosen
 none_chosen h resumes o d = (choice_at h o).before (turned resumes (place_of h) 2 d).once
 
-pub hash_stands : (log : Log) (s : Standing) (m bytes l : List ℕ) (b : Beside) (k p n : ℕ) (r : Log) (worked : Algorithm → ℕ)
-    → Stands log s → InTurn (history_of s) m b k p n → (x : Entered log bytes k p n 0 r worked)
+pub hash_stands : (log : Log) (s : Standing) (m bytes l : List ℕ) (b : Beside) (t : Turn) (r : Log) (worked : Algorithm → ℕ)
+    → Stands log s → InTurn (history_of s) m b t → (x : Entered log bytes t 0 r worked)
     → Carries x.hash (choice_of (history_of s)) l → Carries r.hash (choice_of (accepted (history_of s) m b)) l
 unfolding choice_of
-hash_stands log s m bytes l b k p n r worked st t x c =
+hash_stands log s m bytes l b t r worked st i x c =
     by_test (eqb (kind_of m) 2)
     (λ e.
     let q : kind_of m ≡ 2 = eqb-true (kind_of m) 2 e in
-    let u : choice_of (history_of s) ≡ unchosen = none_chosen (history_of s) (tells b).resumes st.place.order (rw q at t.due) in
-    let a : algorithm_by (yes n) ≡ (tells b).hash = ap (λ (i : ℕ). algorithm_by (yes i)) t.told ∙ told_hash (tells b).hash in
-    rw (e, ← a) (x.chooses refl (t.kind ∙ q) l (rw u at c)))
-    (λ e. rw (e, x.stays refl (λ q. eqb-false (kind_of m) 2 e (sym t.kind ∙ q))) c)
+    let u : choice_of (history_of s) ≡ unchosen = none_chosen (history_of s) (tells b).resumes st.place.order (rw q at i.due) in
+    let a : algorithm_by (yes t.sha384) ≡ (tells b).hash = ap (λ (i : ℕ). algorithm_by (yes i)) i.told ∙ told_hash (tells b).hash in
+    rw (e, ← a) (x.chooses refl (i.kind ∙ q) l (rw u at c)))
+    (λ e. rw (e, x.stays refl (λ q. eqb-false (kind_of m) 2 e (sym i.kind ∙ q))) c)
 
 -- ---- the session hash
 

@@ -17,11 +17,12 @@ use Rattle.transcript.specs.declared.Transcript.{Transcript}
 use Rattle.message_log.specs.Suite.{in_field}
 use Rattle.message_log.specs.Steps.{CarriedBehind, Entered}
 use Rattle.message_log.specs.declared.state.Log.{Log}
+use Rattle.message_log.specs.declared.state.Turn.{Turn}
 
-module _ (log : Log) (bytes : List ℕ) (k p n left : ℕ) (hash : Transcript) (worked : Algorithm → ℕ) (x : Enters log.hash bytes hash worked) where
+module _ (log : Log) (bytes : List ℕ) (t : Turn) (left : ℕ) (hash : Transcript) (worked : Algorithm → ℕ) (x : Enters log.hash bytes hash worked) where
   pub entered_part : (left ≡ 0 → ⊥)
-      → Entered log bytes k p n left
-      (record { hash = hash; place = log.place; session = log.session; client = log.client; server = log.server; kind = k; next = p; sha384 = n; left = left })
+      → Entered log bytes t left
+      (record { hash = hash; place = log.place; session = log.session; client = log.client; server = log.server; kind = t.kind; next = t.place; sha384 = t.sha384; left = left })
       worked
   entered_part z =
       record {
@@ -38,9 +39,9 @@ module _ (log : Log) (bytes : List ℕ) (k p n left : ℕ) (hash : Transcript) (
 
   module _ (e : left ≡ 0) where
     -- a ServerHello chooses the hash
-    pub entered_server : k ≡ 2 → (chose : Transcript) → ((m : List ℕ) → Carries hash unchosen m → Carries chose (chosen (algorithm_by (yes n))) m)
-        → Entered log bytes k p n left
-        (record { hash = chose; place = p; session = log.session; client = log.client; server = log.server; kind = 0; next = 0; sha384 = 0; left = left })
+    pub entered_server : t.kind ≡ 2 → (chose : Transcript) → ((m : List ℕ) → Carries hash unchosen m → Carries chose (chosen (algorithm_by (yes t.sha384))) m)
+        → Entered log bytes t left
+        (record { hash = chose; place = t.place; session = log.session; client = log.client; server = log.server; kind = 0; next = 0; sha384 = 0; left = left })
         worked
     entered_server z chose f =
         record {
@@ -52,14 +53,14 @@ module _ (log : Log) (bytes : List ℕ) (k p n left : ℕ) (hash : Transcript) (
           last = λ _. (refl, record { kind = refl; next = refl; sha384 = refl; left = e });
           chooses = λ _ _. f;
           stays = λ _ q. absurd (q z);
-          session = λ _ c m h. rw (ne_eqb k 16 (λ y. omega (arith, y, z)));
+          session = λ _ c m h. rw (ne_eqb t.kind 16 (λ y. omega (arith, y, z)));
         }
 
-    module _ (o : k ≡ 2 → ⊥) where
-      pub entered_exchange : k ≡ 16 → (session : List ℕ)
+    module _ (o : t.kind ≡ 2 → ⊥) where
+      pub entered_exchange : t.kind ≡ 16 → (session : List ℕ)
           → ((c : Choice) (m : List ℕ) → Carries hash c m → session ≡ in_field (digest_of (algorithm_of c) m))
-          → Entered log bytes k p n left
-          (record { hash = hash; place = p; session = session; client = log.client; server = log.server; kind = 0; next = 0; sha384 = 0; left = left })
+          → Entered log bytes t left
+          (record { hash = hash; place = t.place; session = session; client = log.client; server = log.server; kind = 0; next = 0; sha384 = 0; left = left })
           worked
       entered_exchange z session f =
           record {
@@ -71,12 +72,12 @@ module _ (log : Log) (bytes : List ℕ) (k p n left : ℕ) (hash : Transcript) (
             last = λ _. (refl, record { kind = refl; next = refl; sha384 = refl; left = e });
             chooses = λ _ q. absurd (o q);
             stays = λ _ _. refl;
-            session = λ _ c m h. rw (eq-eqb k 16 z) (f c m h);
+            session = λ _ c m h. rw (eq-eqb t.kind 16 z) (f c m h);
           }
 
-      pub entered_other : (k ≡ 16 → ⊥)
-          → Entered log bytes k p n left
-          (record { hash = hash; place = p; session = log.session; client = log.client; server = log.server; kind = 0; next = 0; sha384 = 0; left = left })
+      pub entered_other : (t.kind ≡ 16 → ⊥)
+          → Entered log bytes t left
+          (record { hash = hash; place = t.place; session = log.session; client = log.client; server = log.server; kind = 0; next = 0; sha384 = 0; left = left })
           worked
       entered_other z =
           record {
@@ -88,34 +89,27 @@ module _ (log : Log) (bytes : List ℕ) (k p n left : ℕ) (hash : Transcript) (
             last = λ _. (refl, record { kind = refl; next = refl; sha384 = refl; left = e });
             chooses = λ _ q. absurd (o q);
             stays = λ _ _. refl;
-            session = λ _ c m h. rw (ne_eqb k 16 z);
+            session = λ _ c m h. rw (ne_eqb t.kind 16 z);
           }
 
 -- as the code has it: the hashes in one call, with what is carried behind the bytes
-module _ (log : Log) (bytes : List ℕ) (k p n left choice : ℕ) (y : CarriedBehind log k n left choice) (next : Transcript) (worked : Algorithm → ℕ)
+module _ (log : Log) (bytes : List ℕ) (t : Turn) (left : ℕ) (choice : Choice) (y : CarriedBehind log t left choice) (next : Transcript) (worked : Algorithm → ℕ)
     (x : EntersTo log.hash bytes choice next worked) where
   abbrev With : ℕ → List ℕ → ℕ → ℕ → ℕ → Type 0
   With place session kind then told =
-      Entered log bytes k p n left
+      Entered log bytes t left
       (record { hash = next; place = place; session = session; client = log.client; server = log.server; kind = kind; next = then; sha384 = told; left = left })
       worked
 
-  pub part_entered : (left ≡ 0 → ⊥) → With log.place log.session k p n
-  part_entered z = entered_part log bytes k p n left next worked (enters_on x (y.stays (λ e. absurd (z e)))) z
-
   module _ (e : left ≡ 0) where
-    stays : (k ≡ 2 → ⊥) → Enters log.hash bytes next worked
+    stays : (t.kind ≡ 2 → ⊥) → Enters log.hash bytes next worked
     stays o = enters_on x (y.stays (λ _ q. o q))
 
-    pub exchange_entered : k ≡ 16 → (session : List ℕ) → ((c : Choice) (m : List ℕ) → Carries next c m → session ≡ in_field (digest_of (algorithm_of c) m))
-        → With p session 0 0 0
-    exchange_entered z session f = let o : k ≡ 2 → ⊥ = λ q. omega (arith, z, q) in entered_exchange log bytes k p n left next worked (stays o) e o z session f
-
     -- a ServerHello, or another one
-    pub other_entered : (k ≡ 16 → ⊥) → With p log.session 0 0 0
+    pub other_entered : (t.kind ≡ 16 → ⊥) → With t.place log.session 0 0 0
     other_entered z =
-        by_test (eqb k 2)
+        by_test (eqb t.kind 2)
         (λ q.
-        let w = eqb-true k 2 q in
-        entered_server log bytes k p n left x.hash worked x.enters e w next (λ m h. x.chooses (algorithm_by (yes n)) m h (y.chosen e w)))
-        (λ q. let o = eqb-false k 2 q in entered_other log bytes k p n left next worked (stays o) e o z)
+        let w = eqb-true t.kind 2 q in
+        entered_server log bytes t left x.hash worked x.enters e w next (λ m h. x.chooses (algorithm_by (yes t.sha384)) m h (y.chosen e w)))
+        (λ q. let o = eqb-false t.kind 2 q in entered_other log bytes t left next worked (stays o) e o z)

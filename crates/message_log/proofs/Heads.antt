@@ -21,6 +21,7 @@ use Rattle.message_log.specs.Standing.Standing.{whole}
 use Rattle.message_log.specs.Calls.{wrong_body, misshapen, shape_number, is_finished, out_of_turn, accept_number}
 use Rattle.message_log.specs.Stands.{number, hash_number}
 use Rattle.message_log.specs.Steps.{InTurn}
+use Rattle.message_log.specs.declared.state.Turn.{Turn}
 use Rattle.message_log.proofs.Messages.{fine}
 
 -- bytes that follow do not change the type
@@ -71,9 +72,10 @@ module _ (h : History) (m : List ℕ) (tell : Told) (e : accept_number (whole h)
   unfolding out_of_turn
   accepted_due k = not-false _ (rw (ne_eqb (kind_of m) 0 k) at accepted_is.turn)
 
-  pub accepted_turn : (k p : ℕ) → k ≡ kind_of m → (k ≡ 0 → ⊥) → p ≡ number (look (kind_of m) (turns tell.resumes (place_of h))) → (n : ℕ) → n ≡ hash_number tell.hash → InTurn h m (told tell) k p n
+  pub accepted_turn : (turn : Turn) → turn.kind ≡ kind_of m → (turn.kind ≡ 0 → ⊥) → turn.place ≡ number (look (kind_of m) (turns tell.resumes (place_of h)))
+      → turn.sha384 ≡ hash_number tell.hash → InTurn h m (told tell) turn
   unfolding tells
-  accepted_turn k p c z q n t =
+  accepted_turn turn c z q t =
       record { kind = c; hashed = z; place = q; told = t; due = accepted_due (λ x. z (c ∙ x)); size = (fine m accepted_is.shape).longest }
 
 -- a HelloRequest is its header

@@ -1,8 +1,9 @@
+pub mod Reasons
 pub mod Turns
 pub mod Places
+pub mod Held
 pub mod Messages
 pub mod Chosen
-pub mod Fields
 pub mod Standing
 pub mod Alone
 pub mod Heads

@@ -1,47 +1,28 @@
 -- A message by itself: which number it has and where it broke, and what is known of one that is not refused.
 -- Assumes nothing.
 use mathlib.Core.Path.{◌≡◌, refl, sym, ◌∙◌, ap, ap₂}
-use mathlib.Core.Bool.{Bool, true, false, not, ◌||◌}
+use mathlib.Core.Bool.{Bool, true, false, not}
 use mathlib.Core.List.{List, [], ◌∷◌}
 use Prim.Native.Nat.{ℕ, ◌≤◌}
 use native.Mathlib.Omega.{arith}
-use lib.Dec.{eqb, ltb}
+use lib.Dec.{ltb}
 use lib.ListN.{length}
-use borrow.Author.Tests.{ltb-true, ltb-false, ne_eqb, not-true, not-false}
+use borrow.Author.Tests.{ltb-true, ltb-false, not-true, not-false}
 use Rattle.seqs.specs.Pick.{pick}
 use Rattle.refusal.specs.First.{first_of}
 use Rattle.refusal.proofs.First.{first_front}
 use Rattle.message.specs.Frame.{overlong, cut_off, misstated, header_place, frame_number, framed}
 use Rattle.message_log.specs.Calls.{wrong_body, misshapen, shape_number, broken_at}
-use Rattle.refusal.specs.Table.{refusal_of, refusal_at}
-use Rattle.refusal.specs.declared.Refusal.{Refusal}
+use Rattle.refusal.specs.Table.{refusal_at}
+use Rattle.std.proofs.Common.{Ok, Err}
 use Rattle.message.specs.declared.header.Header.{Header}
-use Rattle.message.specs.declared.header.Framed.TheVariants.{Whole, Refused}
+use Rattle.refusal.specs.Reason.{refusal_for}
+use Rattle.refusal.specs.declared.reason.Reason.{Reason}
+use Rattle.refusal.specs.declared.reason.Reason.TheVariants.{Malformed}
 use Rattle.message.proofs.Frames.{whole_learnt, refused_learnt, stated_long}
 use Rattle.message_log.specs.Steps.{Judges}
-use Rattle.refusal.specs.Listed.{anywhere, numbered_at}
+use Rattle.refusal.specs.Listed.{anywhere, number_at, numbered}
 use Rattle.seqs.specs.Cases.{by_test, or_left}
-
--- the bodies that the types ask for
-pub zero_body : (n : ℕ) → eqb n 0 ≡ not (wrong_body 0 n)
-unfolding wrong_body
-zero_body n = go (eqb n 0)
-  where
-    go : (b : Bool) → b ≡ not (not b || false)
-    go true = refl
-    go false = refl
-
-pub finished_body : (n : ℕ) → eqb n 12 ≡ not (wrong_body 20 n)
-unfolding wrong_body
-finished_body n = sym (not_not (eqb n 12))
-  where
-    not_not : (b : Bool) → not (not b) ≡ b
-    not_not true = refl
-    not_not false = refl
-
-pub other_body : (kind n : ℕ) → (kind ≡ 0 → ⊥) → (kind ≡ 20 → ⊥) → not (wrong_body kind n) ≡ true
-unfolding wrong_body
-other_body kind n e f = rw (ne_eqb kind 0 e, ne_eqb kind 20 f)
 
 module _ (m : List ℕ) where
   by_tests : (a b c : Bool) → overlong m ≡ a → misstated m ≡ b → misshapen m ≡ c → shape_number m ≡ pick a 10 (pick b 1 (pick c 1 0))
@@ -93,6 +74,10 @@ module _ (m : List ℕ) where
       go false false true p q r = absurd (omega (arith, by_tests false false true p q r))
       go false false false p q r = fine_of p q r
 
+  -- the judgement of one that has a type
+  pub well_shaped : (k : ℕ) → Judges m (Ok k) → shape_number m ≡ 0
+  well_shaped k jd = sym (number_at (shape_number m) (broken_at m)) ∙ numbered 0 (refusal_at (shape_number m) (broken_at m)) (sym jd.refusal)
+
   -- where it broke: a place of one digit, and that of the length where the header is whole
   pub broken_within : broken_at m ≤ 3
   unfolding header_place cut_off
@@ -104,29 +89,26 @@ module _ (m : List ℕ) where
   broken_stated q = rw (or_left (cut_off m) _ q)
 
   -- the judgement by the header
-  pub judge_refused : (r : Refusal) → framed m ≡ Refused r → Judges m (record { refusal = r; kind = 0 })
+  pub judge_refused : (r : Reason) → framed m ≡ Err (refusal_for r) → Judges m (Err r)
   judge_refused r e =
-      let l = refused_learnt m r e in
-      record {
-        refusal = l.0 ∙ ap (λ (n : ℕ). refusal_at n (broken_at m)) (sym (shape_refused l.1));
-        kind = λ z. absurd (l.1 (sym (numbered_at (frame_number m) (broken_at m) r l.0) ∙ z));
-      }
+      let l = refused_learnt m (refusal_for r) e in
+      record { refusal = l.0 ∙ ap (λ (n : ℕ). refusal_at n (broken_at m)) (sym (shape_refused l.1)); kind = tt }
 
-  module _ (h : Header) (e : framed m ≡ Whole h) where
+  module _ (h : Header) (e : framed m ≡ Ok h) where
     by_body : shape_number m ≡ pick (wrong_body h.kind h.length) 1 0
     unfolding misshapen
     by_body =
         let l = whole_learnt m h e in
         rw (l.kind, l.size, ← l.body) (shape_whole l.short l.stated)
 
-    module _ (r : Refusal) (b : Bool) (f : b ≡ not (wrong_body h.kind h.length)) where
-      pub judge_right : r ≡ refusal_of 0 → b ≡ true → Judges m (record { refusal = r; kind = h.kind })
-      judge_right d g =
+    module _ (b : Bool) (f : b ≡ not (wrong_body h.kind h.length)) where
+      pub judge_right : b ≡ true → Judges m (Ok h.kind)
+      judge_right g =
           let n : shape_number m ≡ 0 = by_body ∙ (rw (not-true (wrong_body h.kind h.length) (sym f ∙ g))) in
-          record { refusal = d ∙ anywhere 0 (broken_at m) refl ∙ ap (λ (x : ℕ). refusal_at x (broken_at m)) (sym n); kind = λ z. (whole_learnt m h e).kind }
+          record { refusal = anywhere 0 (broken_at m) refl ∙ ap (λ (x : ℕ). refusal_at x (broken_at m)) (sym n); kind = (whole_learnt m h e).kind }
 
       -- 'A Finished or type 0 body of wrong length gives 1, the place of the length.'
-      pub judge_wrong : r ≡ refusal_at 1 1 → b ≡ false → Judges m (record { refusal = r; kind = h.kind })
-      judge_wrong d g =
+      pub judge_wrong : b ≡ false → Judges m (Err (Malformed 1))
+      judge_wrong g =
           let n : shape_number m ≡ 1 = by_body ∙ (rw (not-false (wrong_body h.kind h.length) (sym f ∙ g))) in
-          record { refusal = d ∙ ap₂ refusal_at (sym n) (sym (broken_stated (whole_learnt m h e).stated)); kind = λ z. (whole_learnt m h e).kind }
+          record { refusal = ap₂ refusal_at (sym n) (sym (broken_stated (whole_learnt m h e).stated)); kind = tt }

@@ -29,6 +29,7 @@ use Rattle.message_log.specs.Finish.{Compared}
 use Rattle.message_log.specs.Stands.{Stands, Unparted, number}
 use Rattle.message_log.specs.Steps.{InTurn}
 use Rattle.message_log.specs.declared.state.Log.{Log}
+use Rattle.message_log.specs.declared.state.Turn.{Turn}
 use Rattle.message_log.proofs.Turns.{turned}
 
 pub fresh_stands : (hash : Transcript) → Carries hash unchosen []
@@ -87,7 +88,7 @@ module _ (log : Log) (s : Standing) (got bytes : List ℕ) (st : Stands log s) (
   carried r worked x =
       subst (Carries r (choice_of (history_of s))) (ap (λ (l : List ℕ). l ++ bytes) e ∙ append_assoc (hashed (history_of s)) got bytes) (x.carries (choice_of (history_of s)) (entered s) st.hash room)
 
-module _ (log : Log) (s : Standing) (m : List ℕ) (b : Beside) (k p n : ℕ) (st : Stands log s) (t : InTurn (history_of s) m b k p n) where
+module _ (log : Log) (s : Standing) (m : List ℕ) (b : Beside) (turn : Turn) (st : Stands log s) (t : InTurn (history_of s) m b turn) where
   other : eqb (kind_of m) 0 ≡ false
   other = ne_eqb (kind_of m) 0 (λ e. t.hashed (t.kind ∙ e))
 
@@ -95,10 +96,10 @@ module _ (log : Log) (s : Standing) (m : List ℕ) (b : Beside) (k p n : ℕ) (s
   far = let u = turned (tells b).resumes (place_of (history_of s)) (kind_of m) t.due in omega (arith, st.short, u.rises, u.most)
 
   -- a log that has taken a message
-  pub taking_stands : (r : Log) → Carries r.hash (choice_of (accepted (history_of s) m b)) (hashed (history_of s) ++ m) → r.place ≡ p
-      → r.session ≡ pick (eqb k 16) (in_field (digest_of (suite_of (history_of s)) (hashed (history_of s) ++ m))) log.session
-      → r.client ≡ pick (eqb k 20 && is_from client (history_of s)) (body_of m) log.client
-      → r.server ≡ pick (eqb k 20 && is_from server (history_of s)) (body_of m) log.server
+  pub taking_stands : (r : Log) → Carries r.hash (choice_of (accepted (history_of s) m b)) (hashed (history_of s) ++ m) → r.place ≡ turn.place
+      → r.session ≡ pick (eqb turn.kind 16) (in_field (digest_of (suite_of (history_of s)) (hashed (history_of s) ++ m))) log.session
+      → r.client ≡ pick (eqb turn.kind 20 && is_from client (history_of s)) (body_of m) log.client
+      → r.server ≡ pick (eqb turn.kind 20 && is_from server (history_of s)) (body_of m) log.server
       → Unparted r
       → Compared (accepted (history_of s) m b)
       → Stands r (whole (accepted (history_of s) m b))

@@ -8,6 +8,7 @@ use Rattle.refusal.specs.Listed.{Listed}
 use Rattle.message.specs.Frame.{kind_of}
 use Rattle.transcript.specs.Choice.{Algorithm}
 use Rattle.transcript.specs.Promise.{each}
+use Rattle.transcript.specs.declared.Blocks.{Blocks}
 use Rattle.message_log.specs.Told.{Told}
 use Rattle.message_log.specs.Standing.{Standing}
 use Rattle.message_log.specs.Calls.{broken_at, accept_number, after_accept, session_hash_of}
@@ -16,7 +17,6 @@ use Rattle.message_log.specs.Finish.{finish_number, after_finish, expected_of}
 use Rattle.message_log.specs.Stands.{Stands}
 use Rattle.message_log.specs.declared.state.Log.{Log}
 use Rattle.message_log.specs.declared.answers.Accepted.{Accepted}
-use Rattle.message_log.specs.declared.answers.Blocks.{Blocks}
 use Rattle.message_log.specs.declared.answers.Fed.{Fed}
 use Rattle.message_log.specs.declared.answers.SessionHash.{SessionHash}
 use Rattle.message_log.specs.declared.answers.Expected.{Expected}

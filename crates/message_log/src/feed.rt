@@ -3,96 +3,87 @@ ghost use Rattle.std.specs.Prelude.{◌≡◌, not};
 ghost use Rattle.message_log.specs.Told.{told_of};
 ghost use Rattle.message_log.specs.Feed.{bad_allowance};
 ghost use Rattle.message_log.specs.Promise.{Feeds};
-ghost use Rattle.message_log.specs.Steps.{PartTurn};
+ghost use Rattle.message_log.specs.Steps.{fed, PartTurn};
 
-use crate::answers::{Blocks, Fed, Told};
-use crate::shape;
+use crate::answers::{Fed, Told};
+use crate::kind;
 use crate::state::{Log, Turn};
-use refusal::refuse;
+use refusal::{Reason, Refusal, refuse};
+use transcript::Blocks;
 
 // The most blocks of one allowance.
 const MOST: usize = 256;
 
+const NONE: Blocks = Blocks {
+    sha256: 0,
+    sha384: 0,
+};
+
 impl Log {
     // As much of the rest as the allowance lets in; all of it, and the message is accepted. What is told counts with the first part of a
     // ServerHello.
-    pub fn feed(self, rest: &[u8], allowance: usize, told: Told) -> Fed
+    pub fn feed(mut self, rest: &[u8], allowance: usize, told: Told) -> Fed
         ensures { Feeds self rest.now allowance (told_of told) result }
     {
-        let turn = self.part(rest, allowance, told);
-        let refusal = turn.refusal;
-        let mut r = Fed {
-            refusal,
-            log: self,
-            taken: 0,
-            blocks: Blocks {
-                sha256: 0,
-                sha384: 0,
+        match self.try_feed(rest, allowance, told) {
+            Ok((taken, blocks)) => Fed {
+                refusal: refuse(0),
+                log: self,
+                taken,
+                blocks,
             },
-        };
-        if refusal.number != 0 {
-            return r;
+            Err(reason) => Fed {
+                refusal: Refusal::from(reason),
+                log: self,
+                taken: 0,
+                blocks: NONE,
+            },
         }
-        if turn.kind == shape::HELLO_REQUEST {
-            r.taken = rest.len();
-            return r;
-        }
-        let hash = self.hash;
-        let n = hash.lets_in(allowance as u16, rest.len());
-        let mut worked256 = 0;
-        let mut worked384 = 0;
-        r.log.entered(
-            &rest[..n],
-            turn.kind,
-            turn.place,
-            turn.sha384,
-            (rest.len() - n) as u16,
-            &mut worked256,
-            &mut worked384,
-        );
-        let blocks = Blocks {
-            sha256: worked256,
-            sha384: worked384,
+    }
+
+    // How many bytes were taken, and the blocks that they completed. Refused, the log is as it was.
+    fn try_feed(
+        &mut self,
+        rest: &[u8],
+        allowance: usize,
+        told: Told,
+    ) -> Result<(usize, Blocks), Reason>
+        ensures { Feeds self.old rest.now allowance (told_of told) (fed result self.new) }
+    {
+        let Some(turn) = self.part(rest, allowance, told)? else {
+            return Ok((rest.len(), NONE));
         };
-        r.taken = n;
-        r.blocks = blocks;
-        r
+        let n = self.hash.lets_in(allowance as u16, rest.len());
+        let blocks = self.entered(&rest[..n], turn, (rest.len() - n) as u16);
+        Ok((n, blocks))
     }
 
     // What is asked before a byte is taken. A first part is judged as the whole message that it begins; behind it only how much is left.
-    fn part(self, rest: &[u8], allowance: usize, told: Told) -> Turn
-        ensures { PartTurn self rest.now allowance (told_of told) result }
+    fn part(&self, rest: &[u8], allowance: usize, told: Told) -> Result<Option<Turn>, Reason>
+        ensures { PartTurn self.now rest.now allowance (told_of told) result }
     {
         if !allowed(allowance) {
-            return Turn {
-                refusal: refuse(10),
-                kind: 0,
-                place: 0,
-                sha384: 0,
-            };
+            return Err(Reason::Length);
         }
         if self.left == 0 {
             return self.turn(rest, told);
         }
         if rest.len() != self.left as usize {
-            return Turn {
-                refusal: refuse(10),
-                kind: 0,
-                place: 0,
-                sha384: 0,
-            };
+            return Err(Reason::Length);
         }
-        Turn {
-            refusal: refuse(0),
+        if self.kind == kind::HELLO_REQUEST {
+            return Ok(None);
+        }
+        Ok(Some(Turn {
             kind: self.kind,
             place: self.next,
             sha384: self.sha384,
-        }
+        }))
     }
 }
 
 fn allowed(allowance: usize) -> bool
     ensures { result ≡ not (bad_allowance allowance) }
 {
-    allowance != 0 && allowance <= MOST
+    (1..=MOST).contains(&allowance)
 }

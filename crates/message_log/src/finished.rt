@@ -5,7 +5,7 @@ ghost use Rattle.message_log.specs.Calls.{finished_of};
 ghost use Rattle.message_log.specs.Stands.{Stands};
 
 use crate::answers::Finished;
-use crate::order;
+use crate::order::Place;
 use crate::state::Log;
 
 impl Log {
@@ -13,29 +13,23 @@ impl Log {
     pub fn finished(self) -> Finished
         ensures { (s : Standing) → Stands self s → result ≡ finished_of s }
     {
+        let full = self.place == u8::from(Place::CompleteFull);
+        let resumed = self.place == u8::from(Place::CompleteResumed);
+        if !full && !resumed {
+            return Finished {
+                complete: 0,
+                resumed: 0,
+                client: [0; 12],
+                server: [0; 12],
+            };
+        }
         let client = self.client;
         let server = self.server;
-        if self.place == order::COMPLETE_FULL {
-            return Finished {
-                complete: 1,
-                resumed: 0,
-                client,
-                server,
-            };
-        }
-        if self.place == order::COMPLETE_RESUMED {
-            return Finished {
-                complete: 1,
-                resumed: 1,
-                client,
-                server,
-            };
-        }
         Finished {
-            complete: 0,
-            resumed: 0,
-            client: [0; 12],
-            server: [0; 12],
+            complete: 1,
+            resumed: u8::from(resumed),
+            client,
+            server,
         }
     }
 }

@@ -1,9 +1,9 @@
 // The log: a struct that each call hands back as its next state. Every value of it is harmless; what one stands for is `Stands` of specs/.
 ghost use Rattle.std.specs.Prelude.{◌≡◌, not, ◌&&◌, List, ℕ, ◌≤◌};
-ghost use Rattle.seqs.specs.Flag.{yes, bit};
 ghost use Rattle.transcript.specs.Choice.{Choice, algorithm_of};
 ghost use Rattle.transcript.specs.Carries.{Carries, digest_of};
-ghost use Rattle.transcript.specs.Promise.{each};
+ghost use Rattle.transcript.specs.Told.{told_in};
+ghost use Rattle.transcript.specs.Promise.{worked};
 ghost use Rattle.message_log.specs.Told.{told_of};
 ghost use Rattle.message_log.specs.Suite.{width_of, in_field};
 ghost use Rattle.message_log.specs.History.{exchanged};
@@ -12,29 +12,30 @@ ghost use Rattle.message_log.specs.Standing.{Standing, history_of, between};
 ghost use Rattle.message_log.specs.Standing.Standing.{whole};
 ghost use Rattle.message_log.specs.Stands.{Stands};
 ghost use Rattle.message_log.specs.Promise.{Accepts, Hashes};
-ghost use Rattle.message_log.specs.Steps.{TurnOf, CarriedBehind, Entered};
+ghost use Rattle.message_log.specs.Steps.{answered, TurnOf, CarriedBehind, Entered};
 
 use crate::answers::{Accepted, SessionHash, Told};
-use crate::{order, shape};
-use refusal::{Refusal, refuse};
-use transcript::Transcript;
+use crate::order::Place;
+use crate::{kind, shape};
+use refusal::{Reason, Refusal, refuse};
+use transcript::{Algorithm, Blocks, Transcript};
 
-// What is to be done with a message: the refusal, or number 0, its type, the place of `order` that it leads to, and the hash that was told
-// with it: 1 for SHA-384.
+// A message that is in turn, as a log keeps it between parts: its type, the number of the place that it leads to, and the hash that was
+// told with it: 1 for SHA-384.
 #[derive(Clone, Copy)]
 pub(crate) struct Turn {
-    pub refusal: Refusal,
     pub kind: u8,
     pub place: u8,
     pub sha384: u8,
 }
 
+// Kept: C interface. The places, the type and the hash are bytes, any of which a caller may hand back.
 #[repr(C)]
 #[derive(Clone, Copy)]
 pub struct Log {
     // every accepted message but type 0, and what has entered of one that is between parts
     pub hash: Transcript,
-    // where the handshake stands: a place of `order`
+    // where the handshake stands: the number of a place of `order`
     pub place: u8,
     // the session hash, once there is one, with zeros behind it
     pub session: [u8; 48],
@@ -55,7 +56,7 @@ impl Log {
         let hash = Transcript::fresh();
         Log {
             hash,
-            place: order::BEGINNING,
+            place: u8::from(Place::Beginning),
             session: [0; 48],
             client: [0; 12],
             server: [0; 12],
@@ -68,186 +69,123 @@ impl Log {
 
     // The next message, and what is told with a ServerHello, which counts with it alone. A HelloRequest leaves the log as it is, and a
     // Finished goes to `finish`.
-    pub fn accept(self, message: &[u8], told: Told) -> Accepted
+    pub fn accept(mut self, message: &[u8], told: Told) -> Accepted
         ensures { Accepts self message.now (told_of told) result }
     {
-        let turn = self.turn(message, told);
-        let refusal = turn.refusal;
-        let mut r = Accepted { refusal, log: self };
-        if refusal.number != 0 {
-            return r;
-        }
-        if turn.kind == shape::HELLO_REQUEST {
-            return r;
-        }
-        let mut worked256 = 0;
-        let mut worked384 = 0;
-        r.log.entered(
-            message,
-            turn.kind,
-            turn.place,
-            turn.sha384,
-            0,
-            &mut worked256,
-            &mut worked384,
-        );
-        r
+        let refusal = Refusal::of(self.try_accept(message, told));
+        Accepted { refusal, log: self }
     }
 
-    // Is the message in turn, and where does it lead?
-    pub(crate) fn turn(self, message: &[u8], told: Told) -> Turn
-        ensures { TurnOf self message.now (told_of told) result }
+    // Refused, the log is as it was.
+    fn try_accept(&mut self, message: &[u8], told: Told) -> Result<(), Reason>
+        ensures { Accepts self.old message.now (told_of told) (answered result self.new) }
     {
-        let judged = shape::judge(message);
-        let kind = judged.kind;
-        let refusal = judged.refusal;
-        if refusal.number != 0 {
-            return Turn {
-                refusal,
-                kind,
-                place: 0,
-                sha384: 0,
-            };
+        if let Some(turn) = self.turn(message, told)? {
+            self.entered(message, turn, 0);
         }
+        Ok(())
+    }
+
+    // Where does the message lead, if it is in turn? None for a HelloRequest, which leads nowhere else.
+    pub(crate) fn turn(&self, message: &[u8], told: Told) -> Result<Option<Turn>, Reason>
+        ensures { TurnOf self.now message.now (told_of told) result }
+    {
+        let kind = shape::judge(message)?;
         if self.left != 0 {
-            return Turn {
-                refusal: refuse(7),
-                kind,
-                place: 0,
-                sha384: 0,
-            };
+            return Err(Reason::OutOfTurn);
         }
-        if kind == shape::HELLO_REQUEST {
-            return Turn {
-                refusal,
-                kind,
-                place: 0,
-                sha384: 0,
-            };
+        if kind == kind::HELLO_REQUEST {
+            return Ok(None);
         }
-        if kind == shape::FINISHED {
-            return Turn {
-                refusal: refuse(7),
-                kind,
-                place: 0,
-                sha384: 0,
-            };
+        if kind == kind::FINISHED {
+            return Err(Reason::OutOfTurn);
         }
-        let place = order::next(self.place, kind, told.resumes != 0);
-        if place == order::NOWHERE {
-            return Turn {
-                refusal: refuse(7),
-                kind,
-                place,
-                sha384: 0,
-            };
-        }
-        let sha384 = flag(told.sha384);
-        Turn {
-            refusal,
+        let place = Place::try_from(self.place)?
+            .next(kind, told.resumes != 0)
+            .ok_or(Reason::OutOfTurn)?;
+        Ok(Some(Turn {
             kind,
-            place,
-            sha384,
-        }
+            place: u8::from(place),
+            sha384: u8::from(told.sha384 != 0),
+        }))
     }
 
     // What is carried behind bytes of a message: a ServerHello that is whole chooses the hash.
-    fn carried(self, kind: u8, sha384: u8, left: u16) -> u8
-        ensures { CarriedBehind self kind sha384 left result }
+    fn carried(&self, turn: Turn, left: u16) -> Option<Algorithm>
+        ensures { CarriedBehind self.now turn left (told_in result) }
     {
-        if left != 0 {
-            return self.hash.choice();
+        if left == 0 && turn.kind == kind::SERVER_HELLO {
+            return Some(Algorithm::from(turn.sha384 != 0));
         }
-        if kind != shape::SERVER_HELLO {
-            return self.hash.choice();
-        }
-        Transcript::told(sha384 != 0)
+        self.hash.chosen()
     }
 
     // These bytes of a message in turn enter the log where it lies, and how many blocks they worked: left bytes are still to come, or none,
     // and the message is accepted.
-    pub(crate) fn entered(
-        &mut self,
-        bytes: &[u8],
-        kind: u8,
-        place: u8,
-        sha384: u8,
-        left: u16,
-        worked256: &mut usize,
-        worked384: &mut usize,
-    )
-        ensures { Entered self.old bytes.now kind place sha384 left self.new (each worked256.new worked384.new) }
+    pub(crate) fn entered(&mut self, bytes: &[u8], turn: Turn, left: u16) -> Blocks
+        ensures { Entered self.old bytes.now turn left self.new (worked result) }
     {
-        let choice = self.carried(kind, sha384, left);
-        self.hash.take(bytes, choice, worked256, worked384);
+        let told = self.carried(turn, left);
+        let blocks = self.hash.take(bytes, told);
         self.left = left;
         if left != 0 {
-            self.kind = kind;
-            self.next = place;
-            self.sha384 = sha384;
-            return;
+            self.kind = turn.kind;
+            self.next = turn.place;
+            self.sha384 = turn.sha384;
+            return blocks;
         }
         self.kind = 0;
         self.next = 0;
         self.sha384 = 0;
-        self.place = place;
-        if kind == shape::CLIENT_KEY_EXCHANGE {
-            let session = digest(self.hash);
+        self.place = turn.place;
+        if turn.kind == kind::CLIENT_KEY_EXCHANGE {
+            let session = digest(&self.hash);
             self.session = session;
         }
+        blocks
     }
 
     pub fn session_hash(self) -> SessionHash
         ensures { Hashes self result }
     {
-        if self.exchanged() {
-            let refusal = refuse(0);
-            let length = width(self.hash);
-            let hash = self.session;
+        if !self.exchanged() {
             return SessionHash {
-                refusal,
-                length,
-                hash,
+                refusal: Refusal::from(Reason::OutOfTurn),
+                length: 0,
+                hash: [0; 48],
             };
         }
-        let refusal = refuse(7);
+        let hash = self.session;
         SessionHash {
-            refusal,
-            length: 0,
-            hash: [0; 48],
+            refusal: refuse(0),
+            length: width(&self.hash),
+            hash,
         }
     }
 
     // Was a ClientKeyExchange accepted? Between the parts of a message that is not answered.
-    fn exchanged(self) -> bool
-        ensures { (s : Standing) → Stands self s → result ≡ (not (between s) && exchanged (history_of s)) }
+    fn exchanged(&self) -> bool
+        ensures { (s : Standing) → Stands self.now s → result ≡ (not (between s) && exchanged (history_of s)) }
     {
-        self.left == 0 && order::exchanged(self.place)
+        self.left == 0 && matches!(Place::try_from(self.place), Ok(place) if place.exchanged())
     }
 }
 
 // The digest of the suite's hash, with zeros behind it.
-fn digest(hash: Transcript) -> [u8; 48]
-    ensures { (c : Choice) (m : List ℕ) → Carries hash c m → result ≡ in_field (digest_of (algorithm_of c) m) }
+fn digest(hash: &Transcript) -> [u8; 48]
+    ensures { (c : Choice) (m : List ℕ) → Carries hash.now c m → result ≡ in_field (digest_of (algorithm_of c) m) }
 {
     if hash.is_sha384() {
         return hash.digest384();
     }
     let mut field = [0u8; 48];
-    let digest = hash.digest256();
-    octets::put(&mut field, &digest);
+    field[..32].copy_from_slice(&hash.digest256());
     field
 }
 
 // How many bytes it has.
-fn width(carried: Transcript) -> u8
-    ensures { (result ≤ 48) × ((c : Choice) (m : List ℕ) → Carries carried c m → result ≡ width_of (algorithm_of c)) }
+fn width(carried: &Transcript) -> u8
+    ensures { (result ≤ 48) × ((c : Choice) (m : List ℕ) → Carries carried.now c m → result ≡ width_of (algorithm_of c)) }
 {
     if carried.is_sha384() { 48 } else { 32 }
-}
-
-fn flag(byte: u8) -> u8
-    ensures { result ≡ bit (yes byte) }
-{
-    if byte == 0 { 0 } else { 1 }
 }

@@ -1,10 +1,10 @@
 -- 1 to 256.
 -- Assumes nothing.
-use Rattle.message_log.proofs.Feeding.{allowed_by, allowed_none}
+use native.Mathlib.Omega.{arith}
+use Rattle.std.proofs.lemmas.Bool.Decides.{nat_tests}
+use Rattle.message_log.specs.Feed.{bad_allowance}
 use Rattle.message_log.proofs.feed.allowed.Goals as goal
 
-pub returns-then-allowance-ne0 : goal.returns-then-allowance-ne0
-returns-then-allowance-ne0 c = allowed_by _ c.if-allowance-ne0.true
-
-pub returns-else-allowance-ne0 : goal.returns-else-allowance-ne0
-returns-else-allowance-ne0 c = allowed_none _ c.if-allowance-ne0.false
+pub returns : goal.returns
+unfolding bad_allowance
+returns c = grind (arith, nat_tests, c.contains.ensures.cases, c.new.ensures.start, c.new.ensures.end, c.new.ensures.exhausted)

@@ -1,10 +1,7 @@
--- Between parts nothing is told of the ClientKeyExchange.
+-- By a byte that is no place none was.
 -- Assumes nothing.
-use Rattle.message_log.proofs.Asking.{exchanged_between, exchanged_whole}
+use Rattle.message_log.proofs.Asking.{unplaced_exchanged}
 use Rattle.message_log.proofs.state.Log.exchanged.Goals as goal
 
-pub returns-then-self-eq0 : goal.returns-then-self-eq0
-returns-then-self-eq0 c = exchanged_whole _ _ c.if-self-eq0.true c.exchanged.ensures
-
-pub returns-else-self-eq0 : goal.returns-else-self-eq0
-returns-else-self-eq0 c = exchanged_between _ c.if-self-eq0.false
+pub returns-in_default-2 : goal.returns-in_default-2
+returns-in_default-2 c = unplaced_exchanged c.args.self.now c.in_default.ensures.1

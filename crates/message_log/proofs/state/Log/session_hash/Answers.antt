@@ -1,10 +1,12 @@
 -- The session hash, once there is one.
 -- Assumes nothing.
+use mathlib.Core.Path.{◌∙◌}
+use Rattle.message_log.proofs.Reasons.{out_of_turn_is}
 use Rattle.message_log.proofs.Asking.{session_given, session_refused}
 use Rattle.message_log.proofs.state.Log.session_hash.Goals as goal
 
-pub returns-then-exchanged : goal.returns-then-exchanged
-returns-then-exchanged c = session_given _ _ _ c.exchanged.ensures _ c.refuse-refusal.ensures c.if-exchanged.true c.width-length.ensures
+pub returns-then-not-exchanged : goal.returns-then-not-exchanged
+returns-then-not-exchanged c = session_refused _ _ _ c.exchanged.ensures (c.from.ensures ∙ out_of_turn_is) c.if-not-exchanged.true
 
 pub returns : goal.returns
-returns c = session_refused _ _ _ c.exchanged.ensures c.refuse-refusal-2.ensures c.if-exchanged.false
+returns c = session_given _ _ _ c.exchanged.ensures _ c.refuse.ensures c.if-not-exchanged.false c.width.ensures
