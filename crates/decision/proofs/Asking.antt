@@ -1,17 +1,18 @@
 -- What a decision asks of a hello that was read, from the places of the reader's answer.
 -- Assumes nothing.
-use mathlib.Core.Path.{◌≡◌, sym, ◌∙◌, ap, ap₂}
+use mathlib.Core.Path.{◌≡◌, sym, ◌∙◌, ap}
 use mathlib.Core.Bool.{Bool}
 use mathlib.Core.List.{List}
 use mathlib.Core.Option.{Option, some}
 use Prim.Native.Nat.{ℕ}
 use lib.ListN.{take, drop}
-use Rattle.seqs.specs.Flag.{yes}
+use Rattle.seqs.specs.Flag.{yes, bit}
 use Rattle.seqs.proofs.Flag.{yes_bit}
 use Rattle.seqs.specs.Cases.{by_test}
-use Rattle.hello.specs.Extensions.{Extension, ri_kind, has, indication_of, ems_of, others_of}
-use Rattle.hello.specs.Fields.{read_client, read_server, signal_in}
-use Rattle.hello.specs.Places.{Points, client_places, server_places, extensions_at}
+use Rattle.hello.specs.Extensions.{Extension, ri_kind, has, indication_of}
+use Rattle.hello.specs.Fields.{read_client, read_server}
+use Rattle.hello.specs.Places.{bytes_at, Points, client_places, server_places, extensions_at}
+use Rattle.hello.specs.declared.parts.Extensions.{Extensions}
 use Rattle.hello.specs.declared.parts.Part.{Part}
 use Rattle.hello.specs.declared.client.ClientHello.{ClientHello}
 use Rattle.hello.specs.declared.server.ServerHello.{ServerHello}
@@ -36,34 +37,30 @@ same_told : {i i' : List ℕ} {s s' : ℕ} {a a' b b' : Bool} {r r' : Option (Li
     → told_of i s r a b ≡ told_of i' s' r' a' b'
 same_told i s p q r = rw (i, s, p, q, r)
 
--- n is how many bytes of the message the RI takes
-pub asked_is : (m : List ℕ) (h : ClientHello) (n : ℕ) → ClientWas m h → n ≡ h.extensions.indication.length
-    → asked_of (yes h.signal) (ri_of (yes h.extensions.indicated) (take n (drop h.extensions.indication.at m))) (yes h.extensions.ems)
-    ≡ asked (read_client m)
-unfolding client_places extensions_at
-asked_is m h n w e =
-    let l = client_learnt m h w in
-    let p = l.places in
-    let i : yes h.extensions.indicated ≡ has ri_kind l.hello.extensions = ap (λ (x : ClientHello). yes x.extensions.indicated) p ∙ yes_bit (has ri_kind l.hello.extensions) in
-    same_asked
-    (ap (λ (x : ClientHello). yes x.signal) p ∙ yes_bit (signal_in l.hello.suites))
-    (ap₂ (λ (x : Bool) (k : ℕ). ri_of x (take k (drop h.extensions.indication.at m))) i e ∙ ri_said m l.hello.extensions h.extensions.indication l.extensions.indication)
-    (ap (λ (x : ClientHello). yes x.extensions.ems) p ∙ yes_bit (ems_of l.hello.extensions))
-    ∙ sym (ap asked l.reading)
+-- a flag of the answer
+said : {x : ℕ} {t : Bool} → x ≡ bit t → yes x ≡ t
+said {t = t} e = ap yes e ∙ yes_bit t
 
--- and j how many the identifier takes
-pub told_is : (m : List ℕ) (h : ServerHello) (j n : ℕ) → ServerWas m h → j ≡ h.identifier.length → n ≡ h.extensions.indication.length
-    → told_of (take j (drop h.identifier.at m)) h.suite (ri_of (yes h.extensions.indicated) (take n (drop h.extensions.indication.at m))) (yes h.extensions.ems) (yes h.extensions.others)
-    ≡ told (read_server m)
+-- what is read of RI
+pub ri_read : (m : List ℕ) (es : List Extension) (x : Extensions) → ((bytes : List ℕ) → indication_of es ≡ some bytes → Points m x.indication bytes) → x.indicated ≡ bit (has ri_kind es)
+    → ri_of (yes x.indicated) (take x.indication.length (drop x.indication.at m)) ≡ indication_of es
+ri_read m es x h i = rw (i, yes_bit (has ri_kind es)) (ri_said m es x.indication h)
+
+pub asked_is : (m : List ℕ) (h : ClientHello) (ri : Option (List ℕ)) → ClientWas m h → ri ≡ ri_of (yes h.extensions.indicated) (bytes_at m h.extensions.indication)
+    → asked_of (yes h.signal) ri (yes h.extensions.ems) ≡ asked (read_client m)
+unfolding client_places extensions_at
+asked_is m h ri w e =
+    let l = client_learnt m h w in
+    let es = l.hello.extensions in
+    let i : h.extensions.indicated ≡ bit (has ri_kind es) = ap (λ (x : ClientHello). x.extensions.indicated) l.places in
+    same_asked (said l.signal) (e ∙ ri_read m es h.extensions l.extensions.indication i) (said l.extensions.ems) ∙ sym (ap asked l.reading)
+
+pub told_is : (m : List ℕ) (h : ServerHello) (i : List ℕ) (ri : Option (List ℕ)) → ServerWas m h → i ≡ bytes_at m h.identifier
+    → ri ≡ ri_of (yes h.extensions.indicated) (bytes_at m h.extensions.indication)
+    → told_of i h.suite ri (yes h.extensions.ems) (yes h.extensions.others) ≡ told (read_server m)
 unfolding server_places extensions_at
-told_is m h j n w d e =
+told_is m h i ri w d e =
     let l = server_learnt m h w in
-    let p = l.places in
-    let i : yes h.extensions.indicated ≡ has ri_kind l.hello.extensions = ap (λ (x : ServerHello). yes x.extensions.indicated) p ∙ yes_bit (has ri_kind l.hello.extensions) in
-    same_told
-    (ap (λ (k : ℕ). take k (drop h.identifier.at m)) d ∙ l.identifier.is)
-    l.suite
-    (ap₂ (λ (x : Bool) (k : ℕ). ri_of x (take k (drop h.extensions.indication.at m))) i e ∙ ri_said m l.hello.extensions h.extensions.indication l.extensions.indication)
-    (ap (λ (x : ServerHello). yes x.extensions.ems) p ∙ yes_bit (ems_of l.hello.extensions))
-    (ap (λ (x : ServerHello). yes x.extensions.others) p ∙ yes_bit (others_of l.hello.extensions))
-    ∙ sym (ap told l.reading)
+    let es = l.hello.extensions in
+    let x : h.extensions.indicated ≡ bit (has ri_kind es) = ap (λ (x : ServerHello). x.extensions.indicated) l.places in
+    same_told (d ∙ l.identifier.is) l.suite (e ∙ ri_read m es h.extensions l.extensions.indication x) (said l.extensions.ems) (said l.extensions.others) ∙ sym (ap told l.reading)

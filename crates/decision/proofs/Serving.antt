@@ -4,51 +4,42 @@ use mathlib.Core.Path.{◌≡◌, refl, sym, ◌∙◌, ap, ap₂, subst}
 use mathlib.Core.Bool.{Bool, true, false}
 use mathlib.Core.List.{List, []}
 use mathlib.Core.Option.{Option, none, some}
-use Prim.Native.Nat.{ℕ, ◌≤◌, ◌<◌}
+use Prim.Native.Nat.{ℕ}
 use native.Mathlib.Omega.{arith}
-use lib.Dec.{eqb, ltb}
+use lib.Dec.{eqb}
 use lib.ListN.{length}
-use borrow.Author.Tests.{eq-eqb, ne_eqb, eqb-true, le-leb, lt-leb, ltb-true, ltb-false}
-use Rattle.seqs.proofs.Flag.{yes_bit}
+use borrow.Author.Tests.{eq-eqb, ne_eqb, eqb-true}
 use Rattle.seqs.specs.Cases.{by_test}
 use Rattle.refusal.specs.First.{first_of}
-use Rattle.refusal.specs.Table.{refusal_of, refusal_at}
+use Rattle.refusal.specs.Table.{refusal_at}
 use Rattle.refusal.specs.Listed.{number_at, row_number, anywhere}
+use Rattle.refusal.specs.Reason.{refusal_for}
+use Rattle.refusal.specs.declared.reason.Reason.TheVariants.{Name}
+use Rattle.sessions.proofs.Reasons.{bare_row}
 use Rattle.refusal.specs.declared.Refusal.{Refusal}
 use Rattle.sessions.specs.Book.{Session, Book, sought, bad_axle}
 use Rattle.sessions.specs.Promises.{known_of, Knows}
 use Rattle.sessions.specs.declared.table.Table.{Table}
-use Rattle.sessions.specs.declared.calls.Known.{Known}
-use Rattle.sessions.specs.declared.calls.Known.TheVariants as known
-use Rattle.hello.specs.Fields.{Hello, Reading, fields}
+use Rattle.sessions.specs.declared.row.Weighed.{Weighed}
+use Rattle.std.specs.Prelude as std
+use Rattle.hello.specs.Fields.{Hello, Reading, fields, lists}
 use Rattle.hello.proofs.Learnt.{Faulted}
 use Rattle.decision.specs.Connection.{Outcome, refusing, refused_by, decided, decision}
 use Rattle.decision.specs.Server.{asked, fault_place, Original, original_of, on_offer, session_in, server_number, server_decision, server_output, DecidedBy, ServerDecides}
-use Rattle.decision.specs.Steps.{plain_number, Plain, original_in, SessionIs}
+use Rattle.decision.specs.Steps.{plain_number, Plain, weighed_in, original_in, SessionIs}
+use Rattle.std.specs.Bool.{then_some}
 use Rattle.decision.specs.declared.connection.Connection.{Connection}
 use Rattle.decision.specs.declared.connection.Switches.{Switches}
 use Rattle.decision.specs.declared.connection.Decision.{Decision}
 use Rattle.decision.proofs.Judging.{decision_refused}
 
--- the axle
-pub axle_low : (a : ℕ) → a < 1 → true ≡ bad_axle a
-unfolding bad_axle
-axle_low a h = rw (lt-leb 1 a h)
-
-pub axle_high : (a : ℕ) → 1 ≤ a → ltb 6 a ≡ bad_axle a
-unfolding bad_axle
-axle_high a h =
-    by_test (ltb 6 a)
-    (λ p. rw (p, le-leb 1 a h, lt-leb a 6 (ltb-true 6 a p)))
-    (λ p. rw (p, le-leb 1 a h, le-leb a 6 (ltb-false 6 a p)))
-
 -- the session
 known_original : (o : Option Session) → original_in (known_of o) ≡ original_of o
 known_original none = refl
-known_original (some s) = ap (λ (e : Bool). some (record { ems = e; suite = s.suite })) (yes_bit s.ems)
+known_original (some s) = refl
 
 module _ (t : Table) (axle : ℕ) (r : Reading) (f : Hello) (e : r ≡ fields f) where
-  pub session_none : length f.identifier ≡ 0 → SessionIs t axle r known.Nothing
+  pub session_none : length f.identifier ≡ 0 → SessionIs t axle r std.None
   unfolding session_in
   session_none h =
       record {
@@ -62,7 +53,7 @@ module _ (t : Table) (axle : ℕ) (r : Reading) (f : Hello) (e : r ≡ fields f)
   looked h b = rw (e, ne_eqb (length f.identifier) 0 h)
 
   -- the session k that is known, and k', which is left of it where it is on offer
-  pub session_found : (length f.identifier ≡ 0 → ⊥) → (i u : List ℕ) (k k' : Known) → i ≡ f.identifier → u ≡ f.suites → Knows t axle i k
+  pub session_found : (length f.identifier ≡ 0 → ⊥) → (i u : List ℕ) (k k' : std.Option Weighed) → i ≡ f.identifier → u ≡ f.suites → Knows t axle i k
       → original_in k' ≡ on_offer u (original_in k) → SessionIs t axle r k'
   session_found h i u k k' q v w o = record { book = w.book; of_book = from w.book w.of_book; answers = λ b x. from b (w.answers b x) }
     where
@@ -71,6 +62,11 @@ module _ (t : Table) (axle : ℕ) (r : Reading) (f : Hello) (e : r ≡ fields f)
           o
           ∙ ap₂ on_offer v (ap original_in x ∙ known_original (sought axle i b) ∙ ap (λ (y : List ℕ). original_of (sought axle y b)) q)
           ∙ sym (looked h b)
+
+-- a session is on offer where its suite is listed
+pub listed : (suites : List ℕ) (w : Weighed) {b : Bool} → b ≡ lists w.suite suites → original_in (then_some b w) ≡ on_offer suites (some (weighed_in w))
+unfolding on_offer
+listed suites w e = rw e (by_test (lists w.suite suites) (λ y. rw y) (λ n. rw n))
 
 -- a decision bears its number
 pub decision_number : (n p : ℕ) (o : Option Outcome) (flag : Bool) (size : ℕ) → (decision n p o flag size).refusal.number ≡ n
@@ -95,13 +91,13 @@ module _ (t : Table) (axle : ℕ) (r : Reading) (c : Connection) (s : Switches) 
             output = rw (e (session_in axle r b), ne_eqb n 0 h);
           }
 
-  pub server_axle : {d : Decision} → bad_axle axle ≡ true → d ≡ refusing (refusal_of 11) → ServerDecides t axle r c s out d out
+  pub server_axle : bad_axle axle ≡ true → ServerDecides t axle r c s out (refusing (refusal_for Name)) out
   unfolding server_number first_of
-  server_axle h q = early 11 (λ k. rw h) (λ z. omega arith) (q ∙ ap refusing (anywhere 11 (fault_place r) refl))
+  server_axle h = early 11 (λ k. rw h) (λ z. omega arith) (ap refusing (bare_row Name 11 refl refl ∙ anywhere 11 (fault_place r) refl))
 
-  pub server_faulted : {d : Decision} {x : Refusal} → bad_axle axle ≡ false → Faulted r x → d ≡ refusing x → ServerDecides t axle r c s out d out
+  pub server_faulted : {x : Refusal} → bad_axle axle ≡ false → Faulted r x → ServerDecides t axle r c s out (refusing x) out
   unfolding server_number first_of
-  server_faulted h f q = early f.number (λ k. rw (h, f.reading)) f.some (q ∙ ap refusing (f.refusal ∙ ap (refusal_at f.number) (sym (ap fault_place f.reading))))
+  server_faulted h f = early f.number (λ k. rw (h, f.reading)) f.some (ap refusing (f.refusal ∙ ap (refusal_at f.number) (sym (ap fault_place f.reading))))
 
   -- on a hello that was read the number is that of the plain values
   read_number : {h : Hello} (y : Option Original) → bad_axle axle ≡ false → r ≡ fields h → server_number axle r y c s out ≡ plain_number c s y out (asked r)
@@ -114,7 +110,7 @@ module _ (t : Table) (axle : ℕ) (r : Reading) (c : Connection) (s : Switches) 
       (λ q. absurd (z (ap (λ (y : Decision). y.refusal.number) p.answer ∙ decision_number _ _ _ _ _ ∙ eqb-true _ 0 q)))
       (λ q. p.output ∙ (rw q))
 
-  pub server_judged : {d : Decision} {o : List ℕ} {h : Hello} (k : Known) → bad_axle axle ≡ false → r ≡ fields h → SessionIs t axle r k
+  pub server_judged : {d : Decision} {o : List ℕ} {h : Hello} (k : std.Option Weighed) → bad_axle axle ≡ false → r ≡ fields h → SessionIs t axle r k
       → Plain c s (original_in k) out (asked r) d o → ServerDecides t axle r c s out d o
   unfolding server_decision server_output
   server_judged {d} {o} k g e w p =

@@ -1,153 +1,120 @@
 // The client's decision.
-ghost use Rattle.std.specs.Prelude.{◌≡◌, not, ◌&&◌, List, ℕ, eqb};
+ghost use Rattle.std.specs.Prelude.{◌≡◌};
+ghost use Rattle.std.proofs.Math.Option.{none};
+ghost use Rattle.seqs.specs.Pick.{pick};
+ghost use Rattle.octets.specs.Same.{same};
 ghost use Rattle.hello.specs.Fields.{read_server};
-ghost use Rattle.decision.specs.Server.{Original};
-ghost use Rattle.decision.specs.Client.{Told, told, lent_of, weighed_of, bad_offer, client_resumes, client_decision};
-ghost use Rattle.decision.specs.Steps.{ri_of, told_of, weighed_in, client_plain, ServerWas};
+ghost use Rattle.decision.specs.Client.{client_decision};
+ghost use Rattle.decision.specs.Steps.{ServerWas, told_in, lent_in, offered_session, Offers, weighed_of_offered, original_in, of_another_suite, client_plain, decision_in};
 
 use crate::connection::{Connection, Decision, Switches};
-use crate::indication::{client_indication, flag_of};
-use crate::outcome::{client_outcome, decided, refused};
-use hello::{ServerHello, ServerRead};
-use refusal::refuse;
+use crate::indication::{client_indication, flag_of, indication_of};
+use crate::outcome::{answered, client_outcome, decided};
+use refusal::Reason;
 use sessions::Weighed;
 
-// On a ServerHello, for the identifier that was offered, empty if none was. Where `lent` says so, `identifier` and `session` are
-// those of the session that is offered.
+// A session that the client keeps, by its identifier.
+#[derive(Clone, Copy)]
+pub struct Lent<'a> {
+    pub identifier: &'a [u8],
+    pub session: Weighed,
+}
+
+// What the decision asks of a ServerHello.
+#[derive(Clone, Copy)]
+pub(crate) struct Told<'a> {
+    pub identifier: &'a [u8],
+    pub suite: u16,
+    pub indication: Option<&'a [u8]>,
+    pub ems: bool,
+    // a type other than these two is there
+    pub others: bool,
+}
+
+// On a ServerHello, for the identifier that was offered, empty if none was, and the session that it belongs to.
 pub fn decide_client(
     message: &[u8],
     offered: &[u8],
-    lent: bool,
-    identifier: &[u8],
-    session: Weighed,
+    lent: Option<Lent<'_>>,
     connection: Connection,
     switches: Switches,
 ) -> Decision
-    ensures { result ≡ client_decision (read_server message.now) offered.now (lent_of lent identifier.now (weighed_in session)) connection switches }
+    ensures { result ≡ client_decision (read_server message.now) offered.now (lent_in lent.entry) connection switches }
 {
-    if bad_offer(offered, lent, identifier) {
-        return refused(refuse(11));
-    }
-    let read = hello::read_server_hello(message);
-    let ServerRead::Read(hello) = read else {
-        return refused(read.refusal());
-    };
-    judge_server_hello(
-        message,
-        hello,
-        offered,
-        lent_session(lent, session),
-        connection,
-        switches,
-    )
+    answered(hear(message, offered, lent, &connection, &switches))
 }
 
-// More than 32 bytes, or an identifier that no lent session bears.
-fn bad_offer(offered: &[u8], lent: bool, identifier: &[u8]) -> bool
-    ensures { (k : Original) → result ≡ bad_offer offered.now (lent_of lent identifier.now k) }
-{
-    if 32 < offered.len() {
-        return true;
-    }
-    if offered.len() == 0 {
-        return false;
-    }
-    if lent {
-        return !octets::same(identifier, offered);
-    }
-    true
-}
-
-// Where none is lent there is nothing to weigh.
-fn lent_session(lent: bool, session: Weighed) -> Weighed
-    ensures { (i : List ℕ) → weighed_in result ≡ weighed_of (lent_of lent i (weighed_in session)) }
-{
-    if lent {
-        return session;
-    }
-    Weighed { ems: 0, suite: 0 }
-}
-
-// The server names the identifier that was offered.
-fn names(identifier: &[u8], offered: &[u8]) -> bool
-    ensures { (t : Told) → t.identifier ≡ identifier.now → result ≡ client_resumes offered.now t }
-{
-    if offered.len() == 0 {
-        return false;
-    }
-    octets::same(identifier, offered)
-}
-
-// Where it resumes, the suite that it names must be the session's.
-fn differs(resumes: bool, suite: u16, original: u16) -> bool
-    ensures { result ≡ (resumes && not (eqb suite original)) }
-{
-    if resumes {
-        return suite != original;
-    }
-    false
-}
-
-// On a ServerHello that was read.
-fn judge_server_hello(
+fn hear(
     message: &[u8],
-    hello: ServerHello,
     offered: &[u8],
-    session: Weighed,
-    connection: Connection,
-    switches: Switches,
-) -> Decision
-    requires { ServerWas message.now hello }
-    ensures { result ≡ client_plain connection switches offered.now (weighed_in session) (told (read_server message.now)) }
+    lent: Option<Lent<'_>>,
+    connection: &Connection,
+    switches: &Switches,
+) -> Result<Decision, Reason>
+    ensures { decision_in result ≡ client_decision (read_server message.now) offered.now (lent_in lent.entry) connection.now switches.now }
 {
-    let extensions = hello.extensions;
-    let indication = extensions.indication;
-    let at = indication.at;
-    let end = at + indication.length;
+    let session = offered_session(offered, lent)?;
+    let hello = hello::read_server_hello(message)?;
     let identifier = hello.identifier;
-    let from = identifier.at;
-    let to = from + identifier.length;
-    judge_told(
-        &message[from..to],
-        hello.suite,
-        extensions.indicated != 0,
-        &message[at..end],
-        extensions.ems != 0,
-        extensions.others != 0,
-        offered,
-        session,
-        connection,
-        switches,
-    )
+    let end = identifier.at + identifier.length;
+    let told = Told {
+        identifier: &message[identifier.at..end],
+        suite: hello.suite,
+        indication: indication_of(message, hello.extensions),
+        ems: hello.extensions.ems != 0,
+        others: hello.extensions.others != 0,
+    };
+    judge(told, offered, session, connection, switches)
+}
+
+// The session that bears the identifier offered; where none is offered none is asked.
+fn offered_session(offered: &[u8], lent: Option<Lent<'_>>) -> Result<Option<Weighed>, Reason>
+    ensures { result ≡ offered_session offered.now lent.entry }
+{
+    if offered.is_empty() {
+        return Ok(None);
+    }
+    match lent {
+        Some(lent) if offered.len() <= 32 && octets::same(lent.identifier, offered) => {
+            Ok(Some(lent.session))
+        }
+        _ => Err(Reason::Name),
+    }
+}
+
+// The session, where the server names the identifier that was offered.
+fn resumed_session(session: Option<Weighed>, identifier: &[u8], offered: &[u8]) -> Option<Weighed>
+    ensures { original_in result ≡ pick (same identifier.now offered.now) (original_in session) none }
+{
+    session.filter(|_| octets::same(identifier, offered))
+}
+
+fn differs(session: Option<Weighed>, suite: u16) -> bool
+    ensures { result ≡ of_another_suite (original_in session) suite }
+{
+    session.is_some_and(|session| session.suite != suite)
 }
 
 // On what a ServerHello tells.
-fn judge_told(
-    identifier: &[u8],
-    suite: u16,
-    indicated: bool,
-    indication: &[u8],
-    ems: bool,
-    others: bool,
+fn judge(
+    told: Told<'_>,
     offered: &[u8],
-    session: Weighed,
-    connection: Connection,
-    switches: Switches,
-) -> Decision
-    ensures { result ≡ client_plain connection switches offered.now (weighed_in session) (told_of identifier.now suite (ri_of indicated indication.now) ems others) }
+    session: Option<Weighed>,
+    connection: &Connection,
+    switches: &Switches,
+) -> Result<Decision, Reason>
+    requires { Offers offered.now (original_in session) }
+    ensures { decision_in result ≡ client_plain connection.now switches.now offered.now (weighed_of_offered (original_in session)) (told_in told.entry) }
 {
-    if others {
-        return refused(refuse(4));
+    if told.others {
+        return Err(Reason::NotOffered);
     }
-    let number = client_indication(indicated, indication, connection, switches);
-    if number != 0 {
-        return refused(refuse(number));
+    client_indication(told.indication, connection, switches)?;
+    let resumed = resumed_session(session, told.identifier, offered);
+    if differs(resumed, told.suite) {
+        return Err(Reason::Suite);
     }
-    let resumes = names(identifier, offered);
-    if differs(resumes, suite, session.suite) {
-        return refused(refuse(12));
-    }
-    let outcome = client_outcome(resumes, session.ems != 0, ems, switches);
-    let flag = flag_of(false, indicated, connection);
-    decided(outcome, flag, 0)
+    let outcome = client_outcome(resumed, told.ems, switches)?;
+    let flag = flag_of(false, told.indication, connection);
+    Ok(decided(outcome, flag, 0))
 }

@@ -1,6 +1,6 @@
 // The connection record, the switches, and what a decision answers. Of a flag 0 is no and everything else is yes.
-ghost use Rattle.std.specs.Prelude.{◌≡◌};
-ghost use Rattle.decision.specs.Connection.{fresh_connection};
+ghost use Rattle.std.specs.Prelude.{◌≡◌, ◌++◌};
+ghost use Rattle.decision.specs.Connection.{fresh_connection, closed};
 
 use refusal::Refusal;
 
@@ -31,6 +31,23 @@ impl Connection {
             client: [0; 12],
             server: [0; 12],
         }
+    }
+
+    // A later handshake must not go on.
+    pub(crate) fn is_closed(&self) -> bool
+        ensures { result ≡ closed self.now }
+    {
+        self.completed != 0 && (self.barred != 0 || self.indication == 0)
+    }
+
+    // The client's verify_data and then the server's.
+    pub(crate) fn verify_data(&self) -> [u8; 24]
+        ensures { result ≡ self.now.client ++ self.now.server }
+    {
+        let mut both = [0; 24];
+        both[..12].copy_from_slice(&self.client);
+        both[12..].copy_from_slice(&self.server);
+        both
     }
 }
 

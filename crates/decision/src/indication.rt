@@ -1,114 +1,94 @@
-// The renegotiation indication (RFC 5746, sections 3.4 to 3.7). `indicated` says that the hello has renegotiation_info, RI, and `indication`
-// are its bytes.
-ghost use Rattle.std.specs.Prelude.{◌≡◌, true, ◌||◌, [], ◌∷◌, ◌++◌};
+// The renegotiation indication (RFC 5746, sections 3.4 to 3.7). An `indication` is the bytes of the hello's renegotiation_info, RI, if it
+// has one.
+ghost use Rattle.std.specs.Prelude.{◌≡◌, true, ◌||◌, ◌≤◌, length};
 ghost use Rattle.seqs.specs.Pick.{pick};
-ghost use Rattle.refusal.specs.First.{first_of};
-ghost use Rattle.decision.specs.Connection.{later, closed, present, saying, wrong_first};
-ghost use Rattle.decision.specs.Steps.{ri_of, server_indication, client_indication};
+ghost use Rattle.seqs.specs.Flag.{yes};
+ghost use Rattle.refusal.specs.Reason.{said};
+ghost use Rattle.hello.specs.Places.{behind, bytes_at};
+ghost use Rattle.decision.specs.Connection.{later, present, saying, wrong_first};
+ghost use Rattle.decision.specs.Steps.{ri_of, ri_in, server_indication, client_indication};
 
 use crate::connection::{Connection, Switches};
-use crate::reply::renegotiated;
+use hello::Extensions;
+use refusal::Reason;
 
-fn is_closed(connection: Connection) -> bool
-    ensures { result ≡ closed connection }
+// As it stands in a hello.
+pub(crate) fn indication_of(message: &[u8], extensions: Extensions) -> Option<&[u8]>
+    requires { behind extensions.indication ≤ length message.now }
+    ensures { ri_in result ≡ ri_of (yes extensions.indicated) (bytes_at message.now extensions.indication) }
 {
-    if connection.completed == 0 {
-        return false;
+    if extensions.indicated == 0 {
+        return None;
     }
-    if connection.barred != 0 {
-        return true;
-    }
-    connection.indication == 0
+    let part = extensions.indication;
+    let end = part.at + part.length;
+    Some(&message[part.at..end])
 }
 
 // In a first handshake: RI is empty; without it the signal stands in, or nothing where that is allowed.
-fn wrong_first(signal: bool, indicated: bool, indication: &[u8], switches: Switches) -> bool
-    ensures { result ≡ wrong_first switches signal (ri_of indicated indication.now) }
+fn first(signal: bool, indication: Option<&[u8]>, switches: &Switches) -> Result<(), Reason>
+    ensures { said result ≡ pick (wrong_first switches.now signal (ri_in indication.entry)) 5 0 }
 {
-    if indicated {
-        return indication.len() != 0;
+    let wrong = match indication {
+        Some(bytes) => !bytes.is_empty(),
+        None => !signal && switches.indication_required != 0,
+    };
+    if wrong {
+        return Err(Reason::Indication);
     }
-    if signal {
-        return false;
-    }
-    switches.indication_required != 0
+    Ok(())
 }
 
 // RI is there and holds what is expected, compared whole.
-fn says(indicated: bool, indication: &[u8], expected: &[u8]) -> bool
-    ensures { result ≡ saying expected.now (ri_of indicated indication.now) }
+fn says(indication: Option<&[u8]>, expected: &[u8]) -> Result<(), Reason>
+    ensures { said result ≡ pick (saying expected.now (ri_in indication.entry)) 0 5 }
 {
-    if indicated {
-        return octets::same(indication, expected);
+    match indication {
+        Some(bytes) if octets::same(bytes, expected) => Ok(()),
+        _ => Err(Reason::Indication),
     }
-    false
 }
 
-// 0, 9 or 5
 pub(crate) fn server_indication(
     signal: bool,
-    indicated: bool,
-    indication: &[u8],
-    connection: Connection,
-    switches: Switches,
-) -> u8
-    ensures { result ≡ server_indication connection switches signal (ri_of indicated indication.now) }
+    indication: Option<&[u8]>,
+    connection: &Connection,
+    switches: &Switches,
+) -> Result<(), Reason>
+    ensures { said result ≡ server_indication connection.now switches.now signal (ri_in indication.entry) }
 {
     if connection.completed == 0 {
-        if wrong_first(signal, indicated, indication, switches) {
-            return 5;
-        }
-        return 0;
+        return first(signal, indication, switches);
     }
-    if is_closed(connection) {
-        return 9;
+    if connection.is_closed() {
+        return Err(Reason::Closed);
     }
     if signal {
-        return 5; // 'If the SCSV is present, the server MUST abort the handshake' (RFC 5746, section 3.7)
+        return Err(Reason::Indication); // 'If the SCSV is present, the server MUST abort the handshake' (RFC 5746, section 3.7)
     }
-    let client = connection.client;
-    if says(indicated, indication, &client) {
-        return 0;
-    }
-    5
+    says(indication, &connection.client)
 }
 
-// 0, 7 or 5
 pub(crate) fn client_indication(
-    indicated: bool,
-    indication: &[u8],
-    connection: Connection,
-    switches: Switches,
-) -> u8
-    ensures { result ≡ client_indication connection switches (ri_of indicated indication.now) }
+    indication: Option<&[u8]>,
+    connection: &Connection,
+    switches: &Switches,
+) -> Result<(), Reason>
+    ensures { said result ≡ client_indication connection.now switches.now (ri_in indication.entry) }
 {
     if connection.completed == 0 {
-        if wrong_first(false, indicated, indication, switches) {
-            return 5;
-        }
-        return 0;
+        return first(false, indication, switches);
     }
-    if is_closed(connection) {
-        return 7;
+    if connection.is_closed() {
+        return Err(Reason::OutOfTurn);
     }
-    let client = connection.client;
-    let server = connection.server;
-    let reply = renegotiated(client, server, 0);
-    if says(indicated, indication, &reply[7..31]) {
-        return 0;
-    }
-    5
+    let expected = connection.verify_data();
+    says(indication, &expected)
 }
 
 // The flag that completion will write.
-pub(crate) fn flag_of(signal: bool, indicated: bool, connection: Connection) -> bool
-    ensures { result ≡ pick (later connection) true (signal || indicated) }
+pub(crate) fn flag_of(signal: bool, indication: Option<&[u8]>, connection: &Connection) -> bool
+    ensures { result ≡ pick (later connection.now) true (signal || present (ri_in indication.entry)) }
 {
-    if connection.completed != 0 {
-        return true;
-    }
-    if signal {
-        return true;
-    }
-    indicated
+    connection.completed != 0 || signal || indication.is_some()
 }

@@ -8,6 +8,6 @@ mod outcome;
 mod reply;
 mod server;
 
-pub use client::decide_client;
+pub use client::{Lent, decide_client};
 pub use connection::{Connection, Decision, Switches};
 pub use server::decide_server;

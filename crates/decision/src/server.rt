@@ -1,17 +1,24 @@
 // The server's decision.
 ghost use Rattle.std.specs.Prelude.{◌≡◌};
-ghost use Rattle.sessions.specs.Book.{bad_axle};
 ghost use Rattle.hello.specs.Fields.{read_client};
-ghost use Rattle.decision.specs.Server.{asked, on_offer, ServerDecides};
-ghost use Rattle.decision.specs.Steps.{ri_of, asked_of, ClientWas, Plain, original_in, SessionIs};
+ghost use Rattle.decision.specs.Server.{on_offer, ServerDecides};
+ghost use Rattle.decision.specs.Steps.{ClientWas, Plain, asked_in, original_in, SessionIs, decision_in};
 
 use crate::connection::{Connection, Decision, Switches};
-use crate::indication::{flag_of, server_indication};
-use crate::outcome::{decided, is_forbidden, refused, server_outcome, uses_ems};
+use crate::indication::{flag_of, indication_of, server_indication};
+use crate::outcome::{answered, decided, server_outcome};
 use crate::reply::build_reply;
-use hello::{ClientHello, ClientRead};
-use refusal::refuse;
-use sessions::{Known, Table};
+use hello::ClientHello;
+use refusal::Reason;
+use sessions::{Table, Weighed};
+
+// What the decision asks of a ClientHello.
+#[derive(Clone, Copy)]
+pub(crate) struct Asked<'a> {
+    pub signal: bool,
+    pub indication: Option<&'a [u8]>,
+    pub ems: bool,
+}
 
 // On a ClientHello of an axle, whose session is looked up in the table. The reply's extensions go to the front of `out`.
 pub fn decide_server(
@@ -24,114 +31,63 @@ pub fn decide_server(
 ) -> Decision
     ensures { ServerDecides table axle (read_client message.now) connection switches out.old result out.new }
 {
-    if is_bad(axle) {
-        return refused(refuse(11));
-    }
-    let read = hello::read_client_hello(message);
-    let ClientRead::Read(hello) = read else {
-        return refused(read.refusal());
-    };
-    let session = session_of(message, hello, axle, table);
-    judge_client_hello(message, hello, session, connection, switches, out)
+    answered(serve(message, axle, &table, &connection, &switches, out))
 }
 
-fn is_bad(axle: u8) -> bool
-    ensures { result ≡ bad_axle axle }
+fn serve(
+    message: &[u8],
+    axle: u8,
+    table: &Table,
+    connection: &Connection,
+    switches: &Switches,
+    out: &mut [u8],
+) -> Result<Decision, Reason>
+    ensures { ServerDecides table.now axle (read_client message.now) connection.now switches.now out.old (decision_in result) out.new }
 {
-    if axle < 1 {
-        return true;
+    if axle < 1 || 6 < axle {
+        return Err(Reason::Name);
     }
-    6 < axle
+    let hello = hello::read_client_hello(message)?;
+    let session = session_of(message, &hello, axle, table);
+    let asked = Asked {
+        signal: hello.signal != 0,
+        indication: indication_of(message, hello.extensions),
+        ems: hello.extensions.ems != 0,
+    };
+    judge(asked, session, connection, switches, out)
 }
 
-// An identifier that is not empty is looked up; the session found must be on offer.
-fn session_of(message: &[u8], hello: ClientHello, axle: u8, table: Table) -> Known
-    requires { ClientWas message.now hello }
-    ensures { SessionIs table axle (read_client message.now) result }
+// An identifier that is not empty is looked up. A session whose suite is not listed counts as none.
+fn session_of(message: &[u8], hello: &ClientHello, axle: u8, table: &Table) -> Option<Weighed>
+    requires { ClientWas message.now hello.now }
+    ensures { SessionIs table.now axle (read_client message.now) result }
 {
     let identifier = hello.identifier;
-    let at = identifier.at;
-    let length = identifier.length;
-    if length == 0 {
-        return Known::Nothing;
+    if identifier.length == 0 {
+        return None;
     }
-    let end = at + length;
-    let known = table.known(axle, &message[at..end]);
+    let end = identifier.at + identifier.length;
+    let session = table.known(axle, &message[identifier.at..end])?;
     let suites = hello.suites;
-    let from = suites.at;
-    let to = from + suites.length;
-    on_offer(known, &message[from..to])
-}
-
-// A session whose suite is not listed counts as none.
-fn on_offer(session: Known, suites: &[u8]) -> Known
-    ensures { original_in result ≡ on_offer suites.now (original_in session) }
-{
-    let Known::Found(original) = session else {
-        return Known::Nothing;
-    };
-    if hello::lists_suite(suites, original.suite) {
-        return session;
-    }
-    Known::Nothing
-}
-
-// On a ClientHello that was read.
-fn judge_client_hello(
-    message: &[u8],
-    hello: ClientHello,
-    session: Known,
-    connection: Connection,
-    switches: Switches,
-    out: &mut [u8],
-) -> Decision
-    requires { ClientWas message.now hello }
-    ensures { Plain connection switches (original_in session) out.old (asked (read_client message.now)) result out.new }
-{
-    let extensions = hello.extensions;
-    let indication = extensions.indication;
-    let at = indication.at;
-    let end = at + indication.length;
-    judge_asked(
-        hello.signal != 0,
-        extensions.indicated != 0,
-        &message[at..end],
-        extensions.ems != 0,
-        session,
-        connection,
-        switches,
-        out,
-    )
+    let to = suites.at + suites.length;
+    hello::lists_suite(&message[suites.at..to], session.suite).then_some(session)
 }
 
 // On what a ClientHello asks, and what is known of its session.
-fn judge_asked(
-    signal: bool,
-    indicated: bool,
-    indication: &[u8],
-    ems: bool,
-    session: Known,
-    connection: Connection,
-    switches: Switches,
+fn judge(
+    asked: Asked<'_>,
+    session: Option<Weighed>,
+    connection: &Connection,
+    switches: &Switches,
     out: &mut [u8],
-) -> Decision
-    ensures { Plain connection switches (original_in session) out.old (asked_of signal (ri_of indicated indication.now) ems) result out.new }
+) -> Result<Decision, Reason>
+    ensures { Plain connection.now switches.now (original_in session) out.old (asked_in asked.entry) (decision_in result) out.new }
 {
-    let number = server_indication(signal, indicated, indication, connection, switches);
-    if number != 0 {
-        return refused(refuse(number));
-    }
-    let outcome = server_outcome(session, ems, switches);
-    if is_forbidden(outcome) {
-        return refused(refuse(6));
-    }
-    let flag = flag_of(signal, indicated, connection);
-    let reply = build_reply(connection, flag, uses_ems(outcome));
-    let bytes = reply.bytes;
-    let length = reply.length;
-    let number = octets::put(out, &bytes[..length]);
-    if number != 0 {
-        return refused(refuse(number));
-    }
-    decided(outcome, flag, length)
+    server_indication(asked.signal, asked.indication, connection, switches)?;
+    let outcome = server_outcome(session, asked.ems, switches)?;
+    let flag = flag_of(asked.signal, asked.indication, connection);
+    let reply = build_reply(connection, flag, outcome.ems);
+    let bytes = reply.as_slice();
+    octets::put(out, bytes)?;
+    Ok(decided(outcome, flag, bytes.len()))
 }

@@ -14,7 +14,8 @@ use Rattle.sessions.specs.Book.{is_name, is_named}
 use Rattle.sessions.specs.Keeps.{row_of, session_of}
 use Rattle.sessions.specs.declared.row.Row.{Row}
 
-from_bool_is : (e : Bool) → from_bool e ≡ bit e
+-- a flag as we write it
+pub from_bool_is : (e : Bool) → from_bool e ≡ bit e
 from_bool_is true = refl
 from_bool_is false = refl
 

@@ -18,11 +18,11 @@ use Rattle.refusal.specs.Table.{refusal_of}
 use Rattle.refusal.specs.Reason.{number_for, refusal_for}
 use Rattle.refusal.specs.declared.Refusal.{Refusal}
 use Rattle.refusal.specs.declared.reason.Reason.{Reason}
-use Rattle.refusal.specs.declared.reason.Reason.TheVariants.{Malformed, Repeated, Version, NotOffered, Indication, NoSecret, OutOfTurn, Differs, Closed, Length, Name, Suite}
+use Rattle.refusal.specs.declared.reason.Reason.TheVariants.{Name, Length}
 use Rattle.std.specs.Prelude as std
 use Rattle.std.specs.Prelude.{Ok, Err}
 use Rattle.octets.specs.Put.{put_number, put_list}
-use Rattle.refusal.specs.Listed.{row_number, anywhere}
+use Rattle.refusal.specs.Listed.{row_number}
 use Rattle.seqs.specs.Cases.{which, by_test, not_both}
 use Rattle.sessions.specs.Book.{Session, Book, empty, many, oldest, strike, there, is_of, is_named, holds, sought, struck, written, bad_axle, bad_name, store_number, look_up_number, store, withdraw, after}
 use Rattle.sessions.specs.Keeps.{Formed, Each, part_of, row_of, laid, six, table_of, Keeps, session_of, sessions_of, queue_of, held_in}
@@ -39,7 +39,8 @@ use Rattle.sessions.proofs.Numbers.{axle_good, name_good, store_11, store_10, wi
 use Rattle.sessions.proofs.Parts.{part_length, part_last, part_sought, part_goes}
 use Rattle.sessions.proofs.Places.{no_row, place, place_strike, place_oldest, place_none}
 use Rattle.sessions.proofs.Queues.{six_at, six_set, six_same, queues_are, laid_at, sessions_at, queue_sessions, queue_held}
-use Rattle.sessions.proofs.Sound.{good_axle, good_name, sound_empty, sound_after, struck_seven}
+use Rattle.sessions.proofs.Reasons.{reason_some, bare_row}
+use Rattle.sessions.proofs.Sound.{good_axle, axle_bad, good_name, sound_empty, sound_after, struck_seven}
 use Rattle.sessions.proofs.Struck.{struck_is}
 
 -- ---- an empty table
@@ -55,7 +56,7 @@ place_good a l h = rw (sym (axle_good a l h))
 
 pub place_bad : (a : ℕ) → (1 ≤ a → a ≤ 6 → ⊥) → Err Name ≡ place_of a
 unfolding place_of
-place_bad a h = by_test (bad_axle a) (λ y. rw y) (λ n. let g = good_axle a n in absurd (h g.0 g.1))
+place_bad a h = rw (axle_bad a h)
 
 pub record Placed (a own : ℕ) : Type 0 where
   pub good : bad_axle a ≡ false
@@ -219,24 +220,6 @@ looked_same : (a : ℕ) (i out : List ℕ) (b b' : Book) (r : Looked) (out' : Li
 unfolding looked_of output_of look_up_number
 looked_same a i out b b' r out' e p = record { returned = rw e p.returned; output = rw e p.output }
 
--- a reason has a number, and that of a length goes with no place
-reason_some : (e : Reason) → number_for e ≡ 0 → ⊥
-reason_some (Malformed p) z = absurd (omega arith)
-reason_some (Repeated p) z = absurd (omega arith)
-reason_some Version z = absurd (omega arith)
-reason_some NotOffered z = absurd (omega arith)
-reason_some Indication z = absurd (omega arith)
-reason_some NoSecret z = absurd (omega arith)
-reason_some OutOfTurn z = absurd (omega arith)
-reason_some Differs z = absurd (omega arith)
-reason_some Closed z = absurd (omega arith)
-reason_some Length z = absurd (omega arith)
-reason_some Name z = absurd (omega arith)
-reason_some Suite z = absurd (omega arith)
-
-length_row : (e : Reason) → number_for e ≡ 10 → refusal_for e ≡ refusal_of 10
-length_row e h = rw h (sym (anywhere 10 _ refl))
-
 -- its secret is put to the output, or not
 module _ (a : ℕ) (i out : List ℕ) (b : Book) (r : Row) (out' : List ℕ) (good : bad_name a i ≡ false)
     (found : sought a i b ≡ some (session_of a r)) (puts : out' ≡ put_list out r.secret) where
@@ -246,7 +229,7 @@ module _ (a : ℕ) (i out : List ℕ) (b : Book) (r : Row) (out' : List ℕ) (go
       by_test (leb (length r.secret) (length out))
       (λ y. absurd (reason_some e (put ∙ (rw y))))
       (λ y.
-      let ref = length_row e (put ∙ (rw y)) in
+      let ref = bare_row e 10 (put ∙ (rw y)) refl in
       let num = look_10 a i out b (session_of a r) good found (leb-false (length r.secret) (length out) y) in
       record { returned = rw (← num, ref); output = puts ∙ (rw (y, ← num)) })
 

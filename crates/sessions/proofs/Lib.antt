@@ -11,6 +11,7 @@ pub mod Parts
 pub mod Leaves
 pub mod Queues
 pub mod Numbers
+pub mod Reasons
 pub mod Kept
 pub mod OneRow
 pub mod Demand3

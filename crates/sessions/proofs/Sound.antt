@@ -11,7 +11,7 @@ use lib.Dec.{eqb, leb}
 use lib.ListN.{length, length-append}
 use borrow.Author.Tests.{eqb-true, leb-true}
 use Rattle.refusal.specs.First.{first_of}
-use Rattle.seqs.specs.Cases.{and_left, and_right, or_left, or_right, which}
+use Rattle.seqs.specs.Cases.{and_left, and_right, or_left, or_right, which, by_test}
 use Rattle.sessions.specs.Book.{Session, Book, many, strike, is_of, is_name, is_named, holds, fullest, struck, written, bad_axle, bad_name, bad_secret, store_number, withdraw_number, Call, store, look_up, withdraw, held, clear, after, empty}
 use Rattle.sessions.specs.Keeps.{Formed, Each, Sound}
 use Rattle.sessions.proofs.Books.{many_append, strike_length, strike_shorter, many_strike, within_many}
@@ -43,6 +43,9 @@ between n m k e =
 pub good_axle : (a : ℕ) → bad_axle a ≡ false → (1 ≤ a) × (a ≤ 6)
 unfolding bad_axle
 good_axle a e = between 1 a 6 e
+
+pub axle_bad : (a : ℕ) → (1 ≤ a → a ≤ 6 → ⊥) → bad_axle a ≡ true
+axle_bad a h = by_test (bad_axle a) (λ y. y) (λ n. let g = good_axle a n in absurd (h g.0 g.1))
 
 pub good_name : (a : ℕ) (i : List ℕ) → bad_name a i ≡ false → (1 ≤ a) × (a ≤ 6) × (1 ≤ length i) × (length i ≤ 32)
 unfolding bad_name

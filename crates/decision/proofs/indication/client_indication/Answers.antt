@@ -1,39 +1,21 @@
--- The client: 0, 7 or 5.
+-- The client: 7 or 5.
 -- Assumes nothing.
-use mathlib.Core.Path.{◌≡◌, sym, ◌∙◌, ap}
-use mathlib.Core.List.{List}
-use Prim.Native.Nat.{ℕ}
-use lib.ListN.{length, take, drop}
+use Rattle.std.proofs.Common.{sym, ◌∙◌, ap, List, ℕ}
+use Rattle.seqs.specs.Pick.{pick}
 use Rattle.decision.specs.Connection.{saying}
-use Rattle.decision.specs.Steps.{ri_of}
+use Rattle.decision.specs.Steps.{ri_in}
 use Rattle.decision.proofs.Turns.{client_first, client_closed, client_later}
-use Rattle.decision.proofs.Replying.{middle}
-use borrow.Author.Rules.{rules}
 use Rattle.decision.proofs.indication.client_indication.Goals as goal
 
-pub returns-then-wrong_first : goal.returns-then-wrong_first
-returns-then-wrong_first c = let a = c.args in sym (client_first a.connection a.switches _ c.if-connection-eq0.true (sym c.wrong_first.ensures ∙ c.if-wrong_first.true))
-
 pub returns-then-connection-eq0 : goal.returns-then-connection-eq0
-returns-then-connection-eq0 c = let a = c.args in sym (client_first a.connection a.switches _ c.if-connection-eq0.true (sym c.wrong_first.ensures ∙ c.if-wrong_first.false))
+returns-then-connection-eq0 c = let a = c.args in c.first.ensures ∙ sym (client_first a.connection.now a.switches.now (ri_in a.indication) c.if-connection-eq0.true)
 
 pub returns-then-is_closed : goal.returns-then-is_closed
-returns-then-is_closed c = let a = c.args in sym (client_closed a.connection a.switches _ (sym c.is_closed.ensures ∙ c.if-is_closed.true))
-
-pub returns-then-says : goal.returns-then-says
-returns-then-says c =
-    let a = c.args in
-    let k = a.connection in
-    let l : length k.client ≡ 12 = search rules in
-    let m : length k.server ≡ 12 = search rules in
-    let e = ap (λ (x : List ℕ). take 24 (drop 7 x)) c.renegotiated-reply.ensures ∙ middle 0 k.client k.server l m in
-    sym (client_later k a.switches _ c.if-connection-eq0.false (sym c.is_closed.ensures ∙ c.if-is_closed.false) (sym (ap (λ (x : List ℕ). saying x (ri_of a.indicated a.indication.now)) e) ∙ sym c.says.ensures ∙ c.if-says.true))
+returns-then-is_closed c = let a = c.args in sym (client_closed a.connection.now a.switches.now (ri_in a.indication) (sym c.if-is_closed.ensures))
 
 pub returns : goal.returns
 returns c =
     let a = c.args in
-    let k = a.connection in
-    let l : length k.client ≡ 12 = search rules in
-    let m : length k.server ≡ 12 = search rules in
-    let e = ap (λ (x : List ℕ). take 24 (drop 7 x)) c.renegotiated-reply.ensures ∙ middle 0 k.client k.server l m in
-    sym (client_later k a.switches _ c.if-connection-eq0.false (sym c.is_closed.ensures ∙ c.if-is_closed.false) (sym (ap (λ (x : List ℕ). saying x (ri_of a.indicated a.indication.now)) e) ∙ sym c.says.ensures ∙ c.if-says.false))
+    c.says.ensures
+    ∙ ap (λ (v : List ℕ). pick {A = ℕ} (saying v (ri_in a.indication)) 0 5) c.verify_data-expected.ensures
+    ∙ sym (client_later a.connection.now a.switches.now (ri_in a.indication) c.if-connection-eq0.false (sym c.if-is_closed.ensures))

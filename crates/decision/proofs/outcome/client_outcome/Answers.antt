@@ -1,9 +1,20 @@
--- The client: resumed or full.
+-- Of a session that is resumed: by its EMS and the hello's.
 -- Assumes nothing.
+use Rattle.decision.specs.Client.{resumption}
 use Rattle.decision.proofs.outcome.client_outcome.Goals as goal
 
-pub returns-then-resumes : goal.returns-then-resumes
-returns-then-resumes c = rw c.if-resumes.true c.resumed.ensures
+pub returns-in-true-true : goal.returns-in-true-true
+unfolding resumption
+returns-in-true-true c = rw (c.in-Some.is, c.in-true-true.is-0, c.in-true-true.is-1)
 
-pub returns : goal.returns
-returns c = rw c.if-resumes.false c.full.ensures
+pub returns-in-false-false : goal.returns-in-false-false
+unfolding resumption
+returns-in-false-false c = rw (c.in-Some.is, c.in-false-false.is-0, c.in-false-false.is-1) c.legacy_resumption.ensures
+
+pub returns-in_default-2 : goal.returns-in_default-2
+unfolding resumption
+returns-in_default-2 c = rw (c.in-Some.is, c.in_default-2.is-0, c.in_default-2.is-1)
+
+pub returns-in_default-2-2 : goal.returns-in_default-2-2
+unfolding resumption
+returns-in_default-2-2 c = rw (c.in-Some.is, c.in_default-2.is-0, c.in_default-2.is-1)

@@ -1,19 +1,26 @@
--- The server's six rows: of no session, and of a session.
+-- The server's six rows.
 -- Assumes nothing.
-use mathlib.Core.Path.{sym, ◌∙◌, ap}
-use Rattle.sessions.specs.declared.calls.Known.{Known}
-use Rattle.decision.specs.Server.{server_outcome}
-use Rattle.decision.specs.Steps.{original_in}
+use Rattle.std.proofs.Common.{sym, ◌∙◌, ap}
+use Rattle.decision.specs.Server.{resumable, server_outcome}
+use Rattle.decision.specs.Steps.{reached}
 use Rattle.decision.proofs.Outcomes.{row_none}
 use Rattle.decision.proofs.outcome.server_outcome.Goals as goal
 
-pub returns-in-Nothing : goal.returns-in-Nothing
-returns-in-Nothing c =
-    let a = c.args in
-    c.full.ensures ∙ sym (row_none a.switches a.ems) ∙ sym (ap (λ (x : Known). server_outcome a.switches (original_in x) a.ems) c.in-Nothing.is)
+pub returns-in_default : goal.returns-in_default
+returns-in_default c = let a = c.args in rw c.in_default.is (c.full.ensures ∙ sym (ap reached (row_none a.switches.now a.ems)))
 
-pub returns-in-Found : goal.returns-in-Found
-unfolding server_outcome
-returns-in-Found c =
-    let a = c.args in
-    c.resumable.ensures ∙ sym (ap (λ (x : Known). server_outcome a.switches (original_in x) a.ems) c.in-Found.is)
+pub returns-in-true-true : goal.returns-in-true-true
+unfolding server_outcome resumable
+returns-in-true-true c = rw (c.in-Some.is, c.in-true-true.is-0, c.in-true-true.is-1)
+
+pub returns-in-true-false : goal.returns-in-true-false
+unfolding server_outcome resumable
+returns-in-true-false c = rw (c.in-Some.is, c.in-true-false.is-0, c.in-true-false.is-1)
+
+pub returns-in-false-true : goal.returns-in-false-true
+unfolding server_outcome resumable
+returns-in-false-true c = rw (c.in-Some.is, c.in-false-true.is-0, c.in-false-true.is-1)
+
+pub returns-in-false-false : goal.returns-in-false-false
+unfolding server_outcome resumable
+returns-in-false-false c = rw (c.in-Some.is, c.in-false-false.is-0, c.in-false-false.is-1) c.legacy_resumption.ensures

@@ -1,33 +1,53 @@
 -- The reply, case by case.
 -- Assumes nothing.
-use mathlib.Core.Path.{◌≡◌, refl}
-use lib.ListN.{length}
-use borrow.Author.Rules.{rules}
-use Rattle.decision.proofs.Replying.{reply_later_ems, reply_later, reply_first_ems, reply_first, reply_ems, reply_none}
+use Rattle.std.proofs.Common.{◌≡◌, ◌++◌, [], ◌∷◌, sym, ◌∙◌, ap, arith, List, ℕ, ◌≤◌, true, false, length, take, append-nil, length-append, ◌+◌}
+use Rattle.std.proofs.lemmas.Bool.{false≢true}
+use Rattle.seqs.specs.Pick.{pick}
+use Rattle.hello.specs.Written.{written_list}
+use Rattle.decision.specs.Reply.{reply_list, reply_of}
+use Rattle.decision.proofs.Replying.{reply_done}
 use Rattle.decision.proofs.reply.build_reply.Goals as goal
+use Rattle.decision.proofs.reply.build_reply.Goals.{then-flag, else-flag, then-ems, else-ems, else-not-flag-via-then-not-flag+else-not-ems, else-not-flag-via-else-not-flag}
 
-pub returns-then-ems : goal.returns-then-ems
-returns-then-ems c =
-    let k = c.args.connection in
-    let l : length k.client ≡ 12 = search rules in
-    let m : length k.server ≡ 12 = search rules in
-    reply_later_ems k l m c.if-connection-ne0.true _ _ _ c.if-flag.true c.if-ems.true c.renegotiated.ensures
+pub returns-then-not-ems : goal.returns-then-not-ems
+unfolding reply_of reply_list
+returns-then-not-ems c = rw (c.if-not-flag.true, c.if-not-ems.true)
 
-pub returns-then-connection-ne0 : goal.returns-then-connection-ne0
-returns-then-connection-ne0 c =
-    let k = c.args.connection in
-    let l : length k.client ≡ 12 = search rules in
-    let m : length k.server ≡ 12 = search rules in
-    reply_later k l m c.if-connection-ne0.true _ _ _ c.if-flag.true c.if-ems.false c.renegotiated-then-connection-ne0.ensures
-
-pub returns-then-ems-2 : goal.returns-then-ems-2
-returns-then-ems-2 c = reply_first_ems c.args.connection c.if-connection-ne0.false _ _ _ c.if-flag.true c.if-ems-2.true c.initial.ensures
-
-pub returns-then-flag : goal.returns-then-flag
-returns-then-flag c = reply_first c.args.connection c.if-connection-ne0.false _ _ _ c.if-flag.true c.if-ems-2.false c.initial-then-flag.ensures
-
-pub returns-then-ems-3 : goal.returns-then-ems-3
-returns-then-ems-3 c = reply_ems c.args.connection _ _ _ c.if-flag.false c.if-ems-3.true refl
+pub overflow_sub-reply : goal.overflow_sub-reply
+overflow_sub-reply c =
+    let f : 2 ≤ c.if-flag.reply.length =
+    elim c.if-flag.branch [ then-flag w ↦ rw w.reply-is (omega (arith, w.push_indication.ensures.size.0)) | else-flag w ↦ rw w.reply-is (omega (arith, c.push.ensures.size)) ] in
+    elim c.if-ems.branch [ then-ems w ↦ rw w.reply-is (omega (arith, w.push-then-ems.ensures.size)) | else-ems w ↦ rw w.reply-is f ]
 
 pub returns : goal.returns
-returns c = reply_none c.args.connection _ _ _ c.if-flag.false c.if-ems-3.false
+returns c =
+    let a = c.args in
+    let k = a.connection.now in
+    let ri = written_list (reply_list k true false) in
+    let flagged : take c.if-flag.reply.length c.if-flag.reply.bytes ≡ 0 ∷ 0 ∷ pick a.flag ri [] =
+    elim c.if-flag.branch [
+      | then-flag w ↦ rw (w.reply-is, w.push_indication.ensures.content, c.push.ensures.content, w.if-flag.true)
+      | else-flag w ↦ rw (w.reply-is, c.push.ensures.content, w.if-flag.false)
+    ] in
+    let whole : take c.if-ems.reply.length c.if-ems.reply.bytes ≡ 0 ∷ 0 ∷ (pick a.flag ri [] ++ pick a.ems (0 ∷ 23 ∷ 0 ∷ 0 ∷ []) []) =
+    elim c.if-ems.branch [
+      | then-ems w ↦ rw (w.reply-is, w.push-then-ems.ensures.content, flagged, w.if-ems.true)
+      | else-ems w ↦ rw (w.reply-is, flagged, w.if-ems.false) (ap (λ (x : List ℕ). 0 ∷ 0 ∷ x) (sym (append-nil (pick a.flag ri []))))
+    ] in
+    let some : a.flag ≡ false → a.ems ≡ false → ⊥ =
+    elim c.else-not-flag.branch [
+      | else-not-flag-via-then-not-flag+else-not-ems w ↦ λ f e. false≢true (sym e ∙ w.if-not-ems.false)
+      | else-not-flag-via-else-not-flag w ↦ λ f e. false≢true (sym f ∙ w.if-not-flag.false)
+    ] in
+    let flagged_size : c.if-flag.reply.length ≡ 2 + length (pick a.flag ri []) =
+    elim c.if-flag.branch [
+      | then-flag w ↦ rw (w.reply-is, w.if-flag.true) w.push_indication.ensures.size.0
+      | else-flag w ↦ rw (w.reply-is, w.if-flag.false) c.push.ensures.size
+    ] in
+    let size : c.if-ems.reply.length ≡ 2 + length (pick a.flag ri [] ++ pick a.ems (0 ∷ 23 ∷ 0 ∷ 0 ∷ []) []) =
+    rw (length-append (pick a.flag ri []) (pick a.ems (0 ∷ 23 ∷ 0 ∷ 0 ∷ []) []))
+    (elim c.if-ems.branch [
+      | then-ems w ↦ rw (w.reply-is, w.if-ems.true) (omega (arith, flagged_size, w.push-then-ems.ensures.size))
+      | else-ems w ↦ rw (w.reply-is, w.if-ems.false) (omega (arith, flagged_size))
+    ]) in
+    reply_done k a.flag a.ems c.if-ems.reply.bytes c.if-ems.reply.length some c.if-ems.reply.within size whole
