@@ -1,6 +1,6 @@
 -- A reader's answer, of which only a hello that was read is kept.
 -- Assumes nothing.
-use Rattle.std.proofs.Common.{◌≡◌, ℕ, Option, Some, None, Result, Ok, Err, arith}
+use Rattle.std.proofs.Common.{◌≡◌, ℕ, Some, None, Result, Ok, Err, arith}
 use Rattle.std.specs.Result.{result_ok}
 use Rattle.refusal.specs.Reason.{refused, refusal_for}
 use Rattle.refusal.specs.declared.Refusal.{Refusal}

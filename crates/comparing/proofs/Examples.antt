@@ -20,7 +20,7 @@ use Rattle.cases.specs.Digits.{ascii, digits, decimal}
 use Rattle.comparing.specs.Differences.{byte, extension, Difference, difference, unless, common, field_differences, extension_differences, read_differences, hello_differences, message_differences, alone, differences_from, differences}
 use Rattle.comparing.specs.Comparison.{line, line_of, text, first_refused, second_refused, comparison}
 use Rattle.comparing.specs.Steps.{matched}
-use Rattle.comparing.specs.declared.extensions.Found.{Found}
+use Rattle.comparing.specs.Steps.{Least}
 use Rattle.comparing.proofs.Types.{lowest_none, lowest_stays, lowest_falls, types_text, types_end}
 
 equal : comparison (1 ∷ 0 ∷ 1 ∷ 7 ∷ []) (1 ∷ 0 ∷ 1 ∷ 7 ∷ []) ≡ []
@@ -72,7 +72,7 @@ client_hello version random identifier suite method =
     1 ∷ 0 ∷ 0 ∷ 42 ∷ 3 ∷ version ∷ replicate 32 random ++ (1 ∷ identifier ∷ 0 ∷ 2 ∷ 0 ∷ suite ∷ 1 ∷ method ∷ [])
 
 -- no extensions: no difference in them
-abbrev none : Found
+abbrev none : Least
 none = record { kind = 65536; «data» = part 0 0 }
 
 no_extensions : (i : ℕ) → extension_differences i [] [] ≡ []
@@ -113,7 +113,7 @@ ems = record { kind = 23; content = [] }
 ems_text : text (extension_differences 1 [] (ems ∷ [])) ≡ ascii "1 extension 23\n"
 unfolding matched extension_differences unless text line_of line ascii digits decimal
 ems_text =
-    let here : Found = record { kind = 23; «data» = part 0 0 } in
+    let here : Least = record { kind = 23; «data» = part 0 0 } in
     let l = lowest_falls [] [] 0 none ems (lowest_none [] 0) here refl refl (omega arith) (omega arith) (omega arith) in
     let more = types_text [] [] [] (ems ∷ []) 0 none here (lowest_none [] 0) l 1 23 false refl (omega arith) (omega arith) (omega arith) (inr refl) in
     let stays = lowest_stays [] [] 24 none ems (lowest_none [] 24) (inl (omega arith)) in

@@ -15,7 +15,7 @@ use Rattle.hello.specs.Next.{no_next, next_of, next_at, HandsOut}
 use Rattle.hello.specs.declared.next.Next.{Next}
 use Rattle.hello.proofs.Handed.{next_none, next_some, handed_once}
 use Rattle.comparing.specs.Steps.{handed_from, handed, IsLowest}
-use Rattle.comparing.specs.declared.extensions.Found.{Found}
+use Rattle.comparing.specs.Steps.{Least}
 
 -- an extension at a place lies within the message, and so does what follows it
 pub record Whole (m : List ℕ) (at : ℕ) : Type 0 where
@@ -66,21 +66,21 @@ pub handed_is : (m : List ℕ) (at : ℕ) (es : List Extension) → HandsOut m a
 handed_is m at es h = handed_once m at (handed m at) es (hands m at) h
 
 -- while a loop asks: the lowest of those that came, and those that are still to come
-pub record Asking (m : List ℕ) (list low : ℕ) (best : Found) (at : ℕ) : Type 0 where
+pub record Asking (m : List ℕ) (list low : ℕ) (best : Least) (at : ℕ) : Type 0 where
   pub came : List Extension
   pub rest : List Extension
   pub all : came ++ rest ≡ handed m list
   pub hands : HandsOut m at rest
   pub lowest : IsLowest m came low best
 
-pub asking_none : (m : List ℕ) (list low : ℕ) (best : Found) → IsLowest m [] low best → Asking m list low best list
+pub asking_none : (m : List ℕ) (list low : ℕ) (best : Least) → IsLowest m [] low best → Asking m list low best list
 asking_none m list low best l = record { came = []; rest = handed m list; all = refl; hands = hands m list; lowest = l }
 
 abbrev pub told : List ℕ → Next → Extension
 told m x = record { kind = x.kind; content = bytes_at m x.«data» }
 
-module _ (m : List ℕ) (list low : ℕ) (best : Found) (at : ℕ) (a : Asking m list low best at) where
-  pub asking_more : (next : Found) → ((next_at m at).found ≡ 0 → ⊥) → IsLowest m (a.came ++ (told m (next_at m at) ∷ [])) low next
+module _ (m : List ℕ) (list low : ℕ) (best : Least) (at : ℕ) (a : Asking m list low best at) where
+  pub asking_more : (next : Least) → ((next_at m at).found ≡ 0 → ⊥) → IsLowest m (a.came ++ (told m (next_at m at) ∷ [])) low next
       → Asking m list low next (next_at m at).next
   asking_more next h l = go a.rest a.all a.hands
     where

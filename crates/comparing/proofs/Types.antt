@@ -17,7 +17,7 @@ use Rattle.hello.specs.Places.{part, behind, bytes_at}
 use Rattle.comparing.specs.Differences.{extension, difference, unless, alike, types_from}
 use Rattle.comparing.specs.Comparison.{text}
 use Rattle.comparing.specs.Steps.{IsLowest, matched}
-use Rattle.comparing.specs.declared.extensions.Found.{Found}
+use Rattle.comparing.specs.Steps.{Least}
 use Rattle.comparing.proofs.Putting.{Writing, writing_room}
 use Rattle.comparing.specs.Pages.{HasRoom}
 use Rattle.comparing.specs.declared.lines.Page.{Page}
@@ -51,7 +51,7 @@ pub lowest_none : (m : List ℕ) (low : ℕ) → IsLowest m [] low (record { kin
 unfolding content_of
 lowest_none m low = record { most = omega arith; within = omega arith; below = λ t h k. refl; here = λ h. absurd (omega arith) }
 
-module _ (m : List ℕ) (es : List Extension) (low : ℕ) (best : Found) (e : Extension) (l : IsLowest m es low best) where
+module _ (m : List ℕ) (es : List Extension) (low : ℕ) (best : Least) (e : Extension) (l : IsLowest m es low best) where
   -- one more that is too low, or not lower
   pub lowest_stays : (e.kind < low) ⊎ (best.kind ≤ e.kind) → IsLowest m (es ++ (e ∷ [])) low best
   lowest_stays c =
@@ -67,7 +67,7 @@ module _ (m : List ℕ) (es : List Extension) (low : ℕ) (best : Found) (e : Ex
       other (inr p) t h k q = omega arith
 
   -- one that is lower
-  pub lowest_falls : (next : Found) → next.kind ≡ e.kind → bytes_at m next.«data» ≡ e.content → behind next.«data» ≤ length m
+  pub lowest_falls : (next : Least) → next.kind ≡ e.kind → bytes_at m next.«data» ≡ e.content → behind next.«data» ≤ length m
       → low ≤ e.kind → e.kind < best.kind → IsLowest m (es ++ (e ∷ [])) low next
   lowest_falls next p q w h k =
       record {
@@ -93,7 +93,7 @@ skip i (suc k) n t es fs p q =
     ∙ skip i k n (t + 1) es fs (λ u h j. p u (omega arith) (omega arith)) (λ u h j. q u (omega arith) (omega arith))
     ∙ ap (λ (x : ℕ). types_from i n x es fs) y
 
-module _ (a b : List ℕ) (es fs : List Extension) (low : ℕ) (x y : Found) (l : IsLowest a es low x) (r : IsLowest b fs low y) where
+module _ (a b : List ℕ) (es fs : List Extension) (low : ℕ) (x y : Least) (l : IsLowest a es low x) (r : IsLowest b fs low y) where
   -- both have no type below the lower one of the two
   apart : (k : ℕ) → k ≤ x.kind → k ≤ y.kind → (i n : ℕ) → low ≤ k → types_from i (k - low + n) low es fs ≡ types_from i n k es fs
   apart k p q i n h =

@@ -1,12 +1,13 @@
 -- What the helpers of a comparison answer: lines of a word alone; a hello that was read, by places of its message.
 -- Assumes nothing.
-use Rattle.std.specs.Prelude.{◌≡◌, Bool, false, List, [], ◌∷◌, ◌++◌, ℕ, zero, suc, ◌+◌, ◌≤◌, ◌<◌, eqb, length, Option, Some, None}
+use Rattle.std.specs.Prelude.{◌≡◌, Bool, false, List, [], ◌∷◌, ◌++◌, ℕ, zero, suc, ◌+◌, ◌≤◌, ◌<◌, eqb, length, Option, Some, None, ◌⊎◌}
 use Rattle.std.proofs.Math.Option.{none, some}
 use Rattle.seqs.specs.Pick.{pick}
 use Rattle.octets.specs.Same.{same}
 use Rattle.hello.specs.Extensions.{Extension, content_of}
 use Rattle.hello.specs.Fields.{Hello, Reading, fields, fault}
-use Rattle.hello.specs.Places.{behind, bytes_at, Points}
+use Rattle.hello.specs.Places.{part, behind, bytes_at, Points}
+use Rattle.hello.specs.declared.parts.Part.{Part}
 use Rattle.hello.specs.Next.{next_at}
 use Rattle.comparing.specs.Comparison.{line}
 use Rattle.comparing.specs.declared.fields.Fields.{Fields}
@@ -71,13 +72,27 @@ unfoldable pub reading_at : List ℕ → Option Fields → Reading
 reading_at m (Some x) = fields (hello_at m x)
 reading_at m None = fault 0 0
 
+-- an extension that was found, and 65,536, which is no type, where none was
+pub record Least : Type 0 where
+  pub kind : ℕ
+  pub «data» : Part
+
+abbrev pub least : Option Found → Least
+least None = record { kind = 65536; «data» = part 0 0 }
+least (Some x) = record { kind = x.kind; «data» = x.«data» }
+
 -- the extension of the least type from low on among es, with its data; of type 65,536, which is none, where there is none
-pub record IsLowest (m : List ℕ) (es : List Extension) (low : ℕ) (r : Found) : Type 0 where
+pub record IsLowest (m : List ℕ) (es : List Extension) (low : ℕ) (r : Least) : Type 0 where
   pub most : r.kind ≤ 65536
   pub within : behind r.«data» ≤ length m
   pub below : (t : ℕ) → low ≤ t → t < r.kind → content_of t es ≡ none
   pub here : r.kind < 65536 → (low ≤ r.kind) × (content_of r.kind es ≡ some (bytes_at m r.«data»))
 
 -- two such extensions are of one type and have the same data
-unfoldable pub matched : List ℕ → Found → List ℕ → Found → Bool
+unfoldable pub matched : List ℕ → Least → List ℕ → Least → Bool
 matched a x b y = pick (eqb x.kind y.kind) (same (bytes_at a x.«data») (bytes_at b y.«data»)) false
+
+-- the lower type of the two, where one of them is a type
+abbrev pub IsLesser : ℕ → ℕ → Option ℕ → Type 0
+IsLesser m n None = (m ≡ 65536) × (n ≡ 65536)
+IsLesser m n (Some k) = (k < 65536) × (k ≤ m) × (k ≤ n) × ((k ≡ m) ⊎ (k ≡ n))

@@ -1,10 +1,10 @@
 // The extensions of two hellos that were read, by their types, the lowest first.
-ghost use Rattle.std.specs.Prelude.{◌≡◌, List, [], ◌∷◌, ◌++◌, ℕ, ◌+◌, ◌≤◌, ◌<◌, length};
+ghost use Rattle.std.specs.Prelude.{◌≡◌, List, [], ◌∷◌, ◌++◌, ℕ, ◌+◌, ◌≤◌, ◌<◌, ◌⊎◌, length};
 ghost use Rattle.hello.specs.Extensions.{Extension};
 ghost use Rattle.hello.specs.Places.{behind, bytes_at};
 ghost use Rattle.comparing.specs.Differences.{How, difference, unless, extension_differences};
 ghost use Rattle.comparing.specs.Comparison.{text};
-ghost use Rattle.comparing.specs.Steps.{handed, IsLowest, matched};
+ghost use Rattle.comparing.specs.Steps.{handed, least, IsLowest, IsLesser, matched};
 ghost use Rattle.comparing.specs.Pages.{HasRoom, Puts};
 
 use crate::fields::same_part;
@@ -12,38 +12,36 @@ use crate::lines::Page;
 use hello::{Next, Part, next_extension};
 use std::cmp::min;
 
-// How many types there are; as a type it is none.
-const TYPES: usize = 65536;
-
-// The extension of the least type from some type on.
+// An extension of a message: its type, and where its data stands.
 #[derive(Clone, Copy)]
 pub(crate) struct Found {
-    pub kind: usize,
+    pub kind: u16,
     pub data: Part,
 }
 
 // The lower one of the two, of those that are not below `low`; of two of one type the first.
-fn lower(best: Found, next: Next, low: usize) -> Found
-    ensures { (m : List ℕ) (es : List Extension) → IsLowest m es low best → behind next.«data» ≤ length m → IsLowest m (es ++ (record { kind = next.kind; content = bytes_at m next.«data» } ∷ [])) low result }
+fn lower(best: Option<Found>, next: Next, low: usize) -> Option<Found>
+    ensures { (m : List ℕ) (es : List Extension) → IsLowest m es low (least best) → behind next.«data» ≤ length m → IsLowest m (es ++ (record { kind = next.kind; content = bytes_at m next.«data» } ∷ [])) low (least result) }
 {
-    let kind = next.kind as usize;
-    if kind < low {
-        return best;
-    }
-    if best.kind <= kind {
+    let kind = next.kind;
+    if (kind as usize) < low {
         return best;
     }
     let data = next.data;
-    Found { kind, data }
+    let Some(best) = best else {
+        return Some(Found { kind, data });
+    };
+    if best.kind <= kind {
+        return Some(best);
+    }
+    Some(Found { kind, data })
 }
 
-fn lowest(message: &[u8], list: usize, low: usize) -> Found
-    ensures { IsLowest message.now (handed message.now list) low result }
+// The one of the lowest type from type `low` on, if there is one.
+fn lowest(message: &[u8], list: usize, low: usize) -> Option<Found>
+    ensures { IsLowest message.now (handed message.now list) low (least result) }
 {
-    let mut best = Found {
-        kind: TYPES,
-        data: Part { at: 0, length: 0 },
-    };
+    let mut best = None;
     let mut at = list;
     loop {
         let next = next_extension(message, at);
@@ -55,15 +53,29 @@ fn lowest(message: &[u8], list: usize, low: usize) -> Found
     }
 }
 
-// Are they of one type, and have they the same data?
-fn match_data(a: &[u8], x: Found, b: &[u8], y: Found) -> bool
-    requires { (behind x.«data» ≤ length a.now) × (behind y.«data» ≤ length b.now) }
-    ensures { result ≡ matched a.now x b.now y }
+// The lower type of the two.
+fn lesser(x: Option<Found>, y: Option<Found>) -> Option<u16>
+    ensures { IsLesser (least x).kind (least y).kind result }
 {
-    if x.kind != y.kind {
+    let Some(x) = x else {
+        return Some(y?.kind);
+    };
+    let Some(y) = y else {
+        return Some(x.kind);
+    };
+    Some(min(x.kind, y.kind))
+}
+
+// Are both there, of one type, and have they the same data?
+fn match_data(a: &[u8], x: Option<Found>, b: &[u8], y: Option<Found>) -> bool
+    requires found { ((least x).kind < 65536) ⊎ ((least y).kind < 65536) }
+    requires within { (behind (least x).«data» ≤ length a.now) × (behind (least y).«data» ≤ length b.now) }
+    ensures { result ≡ matched a.now (least x) b.now (least y) }
+{
+    let Some((x, y)) = x.zip(y) else {
         return false;
-    }
-    same_part(a, x.data, b, y.data)
+    };
+    x.kind == y.kind && same_part(a, x.data, b, y.data)
 }
 
 // A line, but where the two are the same.
@@ -89,14 +101,13 @@ pub(crate) fn put_extensions(
     ensures { Puts page.old (text (extension_differences number (handed a.now i) (handed b.now j))) page.new }
 {
     let mut low: usize = 0;
-    while low < TYPES {
+    loop {
         let x = lowest(a, i, low);
         let y = lowest(b, j, low);
-        let kind = min(x.kind, y.kind);
-        if kind == TYPES {
+        let Some(kind) = lesser(x, y) else {
             return;
-        }
-        put_extension(page, number, kind as u16, match_data(a, x, b, y));
-        low = kind + 1;
+        };
+        put_extension(page, number, kind, match_data(a, x, b, y));
+        low = kind as usize + 1;
     }
 }

@@ -3,7 +3,7 @@
 // A case: the length of the message (2 bytes, big-endian), how often it is repeated (2 bytes), the message.
 #![tactic(auto)]
 
-ghost use Rattle.std.specs.Prelude.{◌<◌};
+ghost use Rattle.std.specs.Prelude.{◌<◌, length, IfSome};
 
 use sha256::Hash;
 use sha384::Hash384;
@@ -11,73 +11,45 @@ use sha384::Hash384;
 fn main(rt: HostRuntime) {
     let mut cases = io::large_buffer();
     let read = stdio::read_from(&mut rt.stdin(), &mut cases);
-    let n = read.length;
-    run(&rt, &cases[..n]);
+    run(&rt, &cases[..read.length]);
 }
 
 // Each case in turn, up to the first that is not whole.
 fn run<R: Print>(rt: &R, cases: &[u8]) {
-    let mut at: usize = 0;
-    while 4 <= cases.len() - at {
-        let length = message::pair(cases, at);
-        let times = message::pair(cases, at + 2);
-        at += 4;
-        if cases.len() - at < length {
-            return;
-        }
-        let end = at + length;
-        print(rt, digest(&cases[at..end], times));
-        print384(rt, digest384(&cases[at..end], times));
-        at = end;
+    let mut rest = cases;
+    while let Some(case) = first(rest) {
+        let piece = case.piece;
+        let fold = (0..case.times).fold(Hash::fresh(), |hash, _| hash.absorb(piece).hash);
+        print(rt, &fold.digest());
+        let fold = (0..case.times).fold(Hash384::fresh(), |hash, _| hash.absorb(piece).hash);
+        print(rt, &fold.digest());
+        rest = case.rest;
     }
 }
 
-fn digest(piece: &[u8], times: usize) -> [u8; 32] {
-    let mut hash = Hash::fresh();
-    let mut i: usize = 0;
-    while i < times {
-        hash = hash.absorb(piece).hash;
-        i += 1;
-    }
-    hash.digest()
+// A piece of a message, how often it is repeated, and what is behind the case.
+#[derive(Clone, Copy)]
+struct Case<'a> {
+    piece: &'a [u8],
+    times: usize,
+    rest: &'a [u8],
 }
 
-fn print<R: Print>(rt: &R, bytes: [u8; 32]) {
-    let mut line = [b'\n'; 65];
-    let mut i = 0;
-    while i < 32 {
-        let x = bytes[i];
-        line[2 * i] = digit(x / 16 % 16);
-        line[2 * i + 1] = digit(x % 16);
-        i += 1;
-    }
-    let _ = rt.write_all(&line);
-}
-
-fn digest384(piece: &[u8], times: usize) -> [u8; 48] {
-    let mut hash = Hash384::fresh();
-    let mut i: usize = 0;
-    while i < times {
-        hash = hash.absorb(piece).hash;
-        i += 1;
-    }
-    hash.digest()
-}
-
-fn print384<R: Print>(rt: &R, bytes: [u8; 48]) {
-    let mut line = [b'\n'; 97];
-    let mut i = 0;
-    while i < 48 {
-        let x = bytes[i];
-        line[2 * i] = digit(x / 16 % 16);
-        line[2 * i + 1] = digit(x % 16);
-        i += 1;
-    }
-    let _ = rt.write_all(&line);
-}
-
-fn digit(n: u8) -> u8
-    requires { n < 16 }
+fn first(cases: &[u8]) -> Option<Case>
+    ensures { IfSome result (λ c. length c.rest.now < length cases.now) }
 {
-    if n < 10 { b'0' + n } else { b'a' - 10 + n }
+    let (head, behind) = cases.split_at_checked(4)?;
+    let (piece, rest) = behind.split_at_checked(message::pair(head, 0))?;
+    Some(Case {
+        piece,
+        times: message::pair(head, 2),
+        rest,
+    })
+}
+
+fn print<R: Print>(rt: &R, digest: &[u8]) {
+    for byte in digest {
+        let _ = print!(rt; "{byte:02x}");
+    }
+    let _ = println!(rt);
 }

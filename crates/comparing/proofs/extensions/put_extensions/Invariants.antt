@@ -7,11 +7,11 @@ use Rattle.comparing.specs.Steps.{handed}
 use Rattle.comparing.proofs.Putting.{Writing}
 use Rattle.comparing.proofs.extensions.put_extensions.Given as goal
 
-abbrev pub invariant-loop-low : goal.invariant-loop-low
-invariant-loop-low l = record {
+abbrev pub invariant-loop-kind : goal.invariant-loop-kind
+invariant-loop-kind l = record {
   most : l.low ≤ 65536;
   writing : Writing l.initial.page (text (extension_differences l.number (handed l.a l.i) (handed l.b l.j))) l.page (text (types_from l.number (65536 - l.low) l.low (handed l.a l.i) (handed l.b l.j)));
 }
 
-abbrev pub decreases-loop-low : goal.decreases-loop-low
-decreases-loop-low l = 65536 - l.low
+abbrev pub decreases-loop-kind : goal.decreases-loop-kind
+decreases-loop-kind l = 65536 - l.low

@@ -1,6 +1,6 @@
 -- What a caller learns of a clientHello that was read.
 -- Assumes nothing.
-use Rattle.std.proofs.Common.{sym, ◌∙◌, arith}
+use Rattle.std.proofs.Common.{sym, ◌∙◌}
 use Rattle.hello.proofs.Learnt.{client_learnt, client_fault}
 use Rattle.hello.proofs.Handed.{handed}
 use Rattle.comparing.proofs.Asked.{kept, dropped}
