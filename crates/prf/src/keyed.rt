@@ -10,6 +10,7 @@ use refusal::{Reason, Refusal};
 use sha256::State;
 use sha384::State384;
 
+// Kept: C interface, both structs of an answer.
 #[repr(C)]
 #[derive(Clone, Copy)]
 pub struct Tagged {
@@ -96,6 +97,7 @@ fn tag<const BLOCK: usize, const DIGEST: usize, H: Begun<BLOCK, DIGEST>>(
     Ok(Keyed::<BLOCK, DIGEST, H>::by(key).tag(&[], &[], message))
 }
 
+// Kept: C interface, each hash has a call and an answer of its own.
 pub fn hmac(key: &[u8], message: &[u8]) -> Tagged
     ensures { result ≡ tagged_of key.now message.now }
 {

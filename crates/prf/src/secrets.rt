@@ -81,7 +81,9 @@ fn finished_label(server: bool) -> [u8; 15]
     }
 }
 
-// The verify_data of one side, from the hash of the log before its Finished.
+// The verify_data of one side, from the hash of the log before its Finished. Each hash has a frame of its own, so that a caller that knows
+// both has not the larger one's locals beside the smaller one's.
+#[inline(never)]
 pub fn verify_data<const BLOCK: usize, const DIGEST: usize, H: Begun<BLOCK, DIGEST>>(
     secret: &[u8],
     server: bool,
