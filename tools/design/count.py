@@ -32,11 +32,17 @@ LINES = {
 
 
 def functions(text):
-    """name, first line, text of each function, without comments and clauses"""
+    """name, first line, text of each function with a body, without comments and clauses; not those of an `impl` of a trait, whose
+    methods are what the trait's instances have of their own"""
     lines = text.split("\n")
+    of_trait = False
     for i, line in enumerate(lines):
+        if re.match(r"^(pub )?(impl|trait)\b", line):
+            of_trait = bool(re.match(r"^(pub )?trait\b|^impl\b.* for ", line))
+        elif line == "}":
+            of_trait = False
         m = re.match(r"^(\s*)(pub(\(crate\))? )?(extern \"C\" )?fn ([a-z_0-9]+)", line)
-        if not m:
+        if not m or of_trait:
             continue
         body = []
         for j in range(i, len(lines)):
