@@ -1,6 +1,6 @@
 -- The last blocks of a message behind its first one, laid out in zeros.
 -- Assumes nothing.
-use Rattle.std.proofs.Common.{◌≡◌, ℕ, suc, ◌+◌, ◌-◌, ◌*◌, ◌/◌, ◌<◌, ◌≤◌, List, [], ◌∷◌, ◌++◌, length, take, drop, set, replicate, sym, ap, ◌∙◌, ap₂, append-nil, append_assoc, arith, take_all, take_at, length-append, length-drop, length-set}
+use Rattle.std.proofs.Common.{◌≡◌, ℕ, suc, ◌+◌, ◌-◌, ◌*◌, ◌<◌, ◌≤◌, List, [], ◌∷◌, ◌++◌, length, take, drop, set, replicate, sym, ap, ◌∙◌, ap₂, append-nil, append_assoc, arith, take_all, take_at, length-append, length-drop}
 use Rattle.std.proofs.Math.Nat.{mul-zero, mul-one}
 use lib.Seq.{set_at, take-add, take-take, paste}
 use lib.ListN.{length-replicate, replicate-append-replicate}

@@ -1,9 +1,9 @@
 -- The last block is laid out, and worked.
 -- Assumes nothing.
-use Rattle.std.proofs.Common.{◌≡◌, ℕ, ◌+◌, ◌-◌, ◌*◌, ◌<◌, List, [], ◌∷◌, ◌++◌, length, take, set, replicate, sym, ap, ◌∙◌, ap₂, refl, append_assoc, arith, take_all}
+use Rattle.std.proofs.Common.{◌≡◌, ℕ, ◌+◌, ◌-◌, ◌*◌, List, [], ◌∷◌, ◌++◌, length, take, set, replicate, sym, ap, ◌∙◌, ap₂, refl, append_assoc, arith, take_all}
 use lib.Seq.{paste}
 use Rattle.seqs.specs.Words.{big, in_bytes}
-use Rattle.seqs.specs.Sha2.{Value, step}
+use Rattle.seqs.specs.Sha2.{step}
 use Rattle.seqs.proofs.ByHand.{behind}
 use Rattle.seqs.proofs.FirstBlock.{ends_by, last_block, length_last_block}
 use Rattle.fips180.specs.Kinds.{size, field}

@@ -1,6 +1,6 @@
 -- The three pieces and the padding are laid out, in one block or in two, and worked.
 -- Assumes nothing.
-use Rattle.std.proofs.Common.{◌≡◌, ℕ, ◌+◌, ◌-◌, ◌*◌, ◌∷◌, ◌++◌, List, length, take, drop, set, replicate, sym, ap, ◌∙◌, ap₂, arith, length-append, length-set}
+use Rattle.std.proofs.Common.{◌≡◌, ℕ, ◌+◌, ◌-◌, ◌*◌, ◌∷◌, ◌++◌, length, take, drop, set, replicate, ap, ◌∙◌, ap₂, arith, length-append, length-set}
 use lib.ListN.{length-replicate}
 use borrow.Rule.Slice.PartMut.{put_mid}
 use Rattle.seqs.specs.Words.{big, in_bytes}

@@ -1,6 +1,6 @@
 -- The whole blocks one after the other, each where it lies, and each counted.
 -- Assumes nothing.
-use Rattle.std.proofs.Common.{◌≡◌, ℕ, ◌+◌, ◌*◌, ap, add-one, arith}
+use Rattle.std.proofs.Common.{ℕ, ◌+◌, ◌*◌, ap, add-one, arith}
 use Rattle.seqs.specs.Sha2.{step}
 use Rattle.seqs.proofs.Blocks.{after_none, after_more}
 use Rattle.fips180.specs.Kinds.{size}

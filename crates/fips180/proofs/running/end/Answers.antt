@@ -1,6 +1,6 @@
 -- The padding goes into the last block or the last two: what is left is the hash value.
 -- Assumes nothing.
-use Rattle.std.proofs.Common.{◌≡◌, ℕ, ◌+◌, ◌-◌, ◌*◌, ◌/◌, ◌%◌, ◌<◌, ◌≤◌, List, ◌++◌, length, take, replicate, sym, ap, ◌∙◌, ap₂, arith, take_all}
+use Rattle.std.proofs.Common.{◌≡◌, ℕ, ◌-◌, ◌*◌, ◌/◌, ◌%◌, List, ◌++◌, length, take, replicate, sym, ap, ◌∙◌, ap₂, arith, take_all}
 use Rattle.seqs.specs.Blocks.{after}
 use Rattle.seqs.specs.Padding.{pad}
 use Rattle.seqs.specs.Words.{big, in_bytes}
@@ -9,7 +9,6 @@ use Rattle.seqs.specs.Taken.{sealed}
 use Rattle.seqs.proofs.Ending.{finished_one, finished_two}
 use Rattle.fips180.specs.Kinds.{size, field}
 use Rattle.fips180.specs.Layout.{value_of}
-use Rattle.fips180.specs.Takes.{HoldsBytes}
 use Rattle.fips180.proofs.running.end.Goals as goal
 use Rattle.fips180.proofs.running.end.Goals.{then-last-at, else-last-at}
 

@@ -1,7 +1,7 @@
 -- From fresh, and the padding behind it.
 -- Assumes nothing.
-use Rattle.std.proofs.Common.{◌≡◌, ℕ, ◌<◌, [], length, replicate, ap, ◌∙◌, refl, arith}
-use Rattle.seqs.specs.Sha2.{Value, step}
+use Rattle.std.proofs.Common.{◌<◌, [], ◌∙◌, refl, arith}
+use Rattle.seqs.specs.Sha2.{step}
 use Rattle.seqs.proofs.Taking.{holds_none}
 use Rattle.fips180.specs.Kinds.{size}
 use Rattle.fips180.specs.Layout.{value_of}

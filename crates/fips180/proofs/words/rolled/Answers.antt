@@ -1,6 +1,6 @@
 -- Sixteen words forward, one by one.
 -- Assumes nothing.
-use Rattle.std.proofs.Common.{◌≡◌, ℕ, ◌<◌, length, get_or, map, refl, ◌∙◌, arith, rules}
+use Rattle.std.proofs.Common.{◌≡◌, length, refl, ◌∙◌, arith, rules}
 use Rattle.seqs.specs.Tab.{tab}
 use Rattle.seqs.proofs.Rolling.{spread, onward, same_next}
 use Rattle.fips180.proofs.Elements.{number_at}

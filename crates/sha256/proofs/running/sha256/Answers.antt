@@ -1,6 +1,6 @@
 -- The hash of a whole message, or the refusal.
 -- Assumes nothing.
-use Rattle.std.proofs.Common.{◌/◌, ◌≤◌, [], length, sym, ap, ◌∙◌, arith}
+use Rattle.std.proofs.Common.{◌/◌, ◌≤◌, length, sym, ap, ◌∙◌, arith}
 use Rattle.seqs.specs.Sha2.{Value}
 use Rattle.refusal.specs.Table.{refusal_of}
 use Rattle.sha256.specs.Compress.{output}

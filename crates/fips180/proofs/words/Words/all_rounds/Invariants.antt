@@ -1,6 +1,6 @@
 -- Turn by turn: before each the ring is W(16 * turn) to W(16 * turn + 15).
 -- Assumes nothing.
-use Rattle.std.proofs.Common.{◌≡◌, ℕ, ◌+◌, ◌*◌, ◌≤◌, List, map}
+use Rattle.std.proofs.Common.{◌≡◌, ℕ, ◌*◌, ◌≤◌, List, map}
 use Rattle.seqs.specs.Sha2.{schedule, rounds}
 use Rattle.seqs.specs.Ring.{Ring}
 use Rattle.fips180.specs.Layout.{value_of}

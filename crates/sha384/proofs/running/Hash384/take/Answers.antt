@@ -1,6 +1,6 @@
 -- What is taken goes behind what waits, and is counted.
 -- Assumes nothing.
-use Rattle.std.proofs.Common.{◌∙◌, ap, arith, sym, length-append}
+use Rattle.std.proofs.Common.{◌∙◌, arith, length-append}
 use Rattle.std.proofs.Math.Nat.{mod-eq_of_lt}
 use Rattle.sha384.specs.Constants.{initial}
 use Rattle.sha384.proofs.Counting.{counts_completed}
