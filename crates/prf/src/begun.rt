@@ -12,7 +12,8 @@ ghost use Rattle.prf.specs.Lawful.{sha256_lawful, sha384_lawful};
 use sha256::State;
 use sha384::State384;
 
-// The hash value of a hash with blocks and digests of so many bytes.
+// The hash value of a hash with blocks and digests of so many bytes. Where a message ends in one of two ways, each has a frame of its own,
+// so that neither lies beside the other's blocks.
 pub trait Begun<const BLOCK: usize, const DIGEST: usize>: Copy {
     // the hash
     ghost hash: { List ℕ → List ℕ };
@@ -67,10 +68,12 @@ impl Begun<64, 32> for State {
         State::of_block(b)
     }
 
+    #[inline(never)]
     fn ended(self, a: &[u8], b: &[u8], c: &[u8]) -> [u8; 32] {
         State::ended(self, a, b, c)
     }
 
+    #[inline(never)]
     fn ended_short(self, a: &[u8], b: &[u8], c: &[u8]) -> [u8; 32] {
         State::ended_short(self, a, b, c)
     }
@@ -107,10 +110,12 @@ impl Begun<128, 48> for State384 {
         State384::of_block(b)
     }
 
+    #[inline(never)]
     fn ended(self, a: &[u8], b: &[u8], c: &[u8]) -> [u8; 48] {
         State384::ended(self, a, b, c)
     }
 
+    #[inline(never)]
     fn ended_short(self, a: &[u8], b: &[u8], c: &[u8]) -> [u8; 48] {
         State384::ended_short(self, a, b, c)
     }

