@@ -191,10 +191,6 @@ step m i t n h w e f = go₁ (leb 4 (length m - i)) (leb (i + 4 + n) (length m))
         let x : well_formed_at m (i + 4 + n) ≡ true = sym (whole_next m i t n e f (omega arith) l r) ∙ w in
         record { within = l; shape = r; whole = x; list = ap list_in (parsed_more m i t n e f (omega arith) l r) ∙ list_more _ (parsed_at m (i + 4 + n)) x }
 
--- room for the step
-pub room : (m : List ℕ) (i : ℕ) → i < length m → well_formed_at m i ≡ true → i + 4 + pair_at m (i + 2) ≤ length m
-room m i h w = (step m i _ _ h w refl refl).within
-
 -- the bytes that an extension has
 pub size_of_lem : (m : List ℕ) (i n : ℕ) → i + n ≤ length m → length (take n (drop i m)) ≡ n
 size_of_lem m i n h = length-take-le n (drop i m) (rw length-drop (omega arith))

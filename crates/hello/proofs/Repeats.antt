@@ -1,4 +1,4 @@
--- The repeat that is found first: what the loops over pairs of types learn of it, and that there is one exactly where a type stands twice.
+-- A type that stands twice, among those behind some others.
 -- Assumes nothing.
 use mathlib.Core.Path.{◌≡◌, refl, sym, ◌∙◌, ap}
 use mathlib.Core.Bool.{Bool, true, false, ◌||◌}
@@ -9,7 +9,7 @@ use borrow.Author.Tests.{eq-eqb, ne_eqb, eqb-true, eqb-false}
 use Rattle.seqs.specs.Cases.{by_test}
 use Rattle.hello.specs.Extensions.{Extension, has}
 
--- There is a repeat exactly where a type stands twice. `clash`: one of es has a type that stands before.
+-- one of es has a type that stands before
 unfoldable pub clash : List Extension → List Extension → Bool
 clash before [] = false
 clash before (e ∷ es) = has e.kind before || clash before es
@@ -24,10 +24,6 @@ or_apart false false false d = refl
 pub or_assoc : (a b c : Bool) → ((a || b) || c) ≡ (a || (b || c))
 or_assoc true b c = refl
 or_assoc false b c = refl
-
-or_none : (b : Bool) → (b || false) ≡ b
-or_none true = refl
-or_none false = refl
 
 same_kinds : (a b : ℕ) → eqb a b ≡ eqb b a
 same_kinds a b =

@@ -63,10 +63,6 @@ tests_join false false false false false false true s size = record { refusal = 
 tests_join false false false false false false false true size = record { refusal = refl; size = refl }
 tests_join false false false false false false false false size = record { refusal = refl; size = (refl, refl) }
 
-or_true : (o : Bool) → (o || true) ≡ true
-or_true true = refl
-or_true false = refl
-
 -- why nothing is written, and what is
 judged_ok : (m t w s : Bool) (u : ⊤) → Ok u ≡ judged m t w s → s ≡ false
 unfolding judged
