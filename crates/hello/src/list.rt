@@ -65,14 +65,19 @@ impl<'a> List<'a> {
     }
 
     // No type stands before it too. Each is compared with all before it, up to the first repeat.
+    // Kept: a nested walk that is left by its label is the form that document 01 names.
     pub(crate) fn differ(self) -> Result<(), Reason>
         ensures { result ≡ differ_from self.entry.at (list_at self.entry.message.now self.entry.at) }
     {
-        for (n, e) in self.enumerate() {
-            if self.take(n).any(|f| f.kind == e.kind) {
-                return Err(Reason::Repeated(e.at));
+        let mut answer = Ok(());
+        'all: for (n, e) in self.enumerate() {
+            for f in self.take(n) {
+                if f.kind == e.kind {
+                    answer = Err(Reason::Repeated(e.at));
+                    break 'all;
+                }
             }
         }
-        Ok(())
+        answer
     }
 }
