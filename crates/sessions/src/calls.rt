@@ -7,6 +7,7 @@ use crate::row::{Row, Weighed};
 use crate::table::Table;
 use refusal::{Reason, Refusal, refuse};
 
+// Kept: the flags and numbers of the answers are the C interface.
 #[repr(C)]
 #[derive(Clone, Copy)]
 pub struct Stored {

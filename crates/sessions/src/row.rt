@@ -6,6 +6,7 @@ ghost use Rattle.sessions.specs.Promises.{weighed};
 
 // The identifier is the first `size` bytes; 0 in `ems` is no, everything else yes; of the suite the high byte comes first. It is two
 // bytes and no number, so that a table has no padding.
+// Kept: C interface.
 #[repr(C)]
 #[derive(Clone, Copy)]
 pub struct Row {
