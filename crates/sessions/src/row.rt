@@ -50,7 +50,7 @@ impl Row {
         Row {
             ems: u8::from(ems),
             size: identifier.len() as u8,
-            suite: [(suite / 256) as u8, (suite % 256) as u8],
+            suite: suite.to_be_bytes(),
             identifier: name,
             secret: key,
         }
@@ -73,7 +73,7 @@ impl Row {
     {
         Weighed {
             ems: self.ems != 0,
-            suite: octets::number(self.suite[0], self.suite[1]),
+            suite: u16::from_be_bytes(self.suite),
         }
     }
 }
