@@ -5,6 +5,7 @@ ghost use Rattle.decision.specs.Connection.{fresh_connection, closed};
 use refusal::Refusal;
 
 // What a connection keeps from one handshake to the next. A later handshake on it is a renegotiation.
+// Kept: C interface.
 #[repr(C)]
 #[derive(Clone, Copy)]
 pub struct Connection {
@@ -51,6 +52,7 @@ impl Connection {
     }
 }
 
+// Kept: C interface.
 #[repr(C)]
 #[derive(Clone, Copy)]
 pub struct Switches {
@@ -60,6 +62,7 @@ pub struct Switches {
 }
 
 // Where the number is not 0, all else is 0.
+// Kept: C interface.
 #[repr(C)]
 #[derive(Clone, Copy)]
 pub struct Decision {

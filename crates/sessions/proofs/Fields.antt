@@ -20,10 +20,10 @@ from_bool_is true = refl
 from_bool_is false = refl
 
 -- a row that was put together: the identifier over zeros
-pub row_is : (a f : ℕ) (e : Bool) (u : ℕ) (i s n k : List ℕ) → f ≡ from_bool e → n ≡ i ++ drop (length i) (replicate 32 0) → length i ≤ 32 → k ≡ s
-    → ◌≡◌ {A = Row} (record { ems = f; size = length i; suite = (u / 256) ∷ (u % 256) ∷ []; identifier = n; secret = k }) (row_of (record { axle = a; identifier = i; ems = e; suite = u; secret = s }))
+pub row_is : (a f : ℕ) (e : Bool) (u : ℕ) (v i s n k : List ℕ) → f ≡ from_bool e → v ≡ (u / 256) ∷ (u % 256) ∷ [] → n ≡ i ++ drop (length i) (replicate 32 0) → length i ≤ 32 → k ≡ s
+    → ◌≡◌ {A = Row} (record { ems = f; size = length i; suite = v; identifier = n; secret = k }) (row_of (record { axle = a; identifier = i; ems = e; suite = u; secret = s }))
 unfolding row_of
-row_is a f e u i s n k p q h r = rw (p, q, r, drop-zeros (length i) 32, from_bool_is e)
+row_is a f e u v i s n k p w q h r = rw (p, w, q, r, drop-zeros (length i) 32, from_bool_is e)
 
 -- by the bytes of its own name
 pub named_is : (a : ℕ) (i : List ℕ) (r : Row) → is_named a i (session_of a r) ≡ same (take r.size r.identifier) i

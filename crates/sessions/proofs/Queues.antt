@@ -48,19 +48,21 @@ at_any (x ∷ l) (suc i) d e h = at_any l i d e (omega arith)
 
 -- the queue of an axle, as an array is read
 module _ (t : Table) (a n : ℕ) (l : length t.queues ≡ 6) (h : n < 6) (e : a ≡ suc n) where
-  queue_read : get_or t.queues n no_queue ≡ queue_at t a
+  pub queue_read : get_or t.queues n no_queue ≡ queue_at t a
   unfolding queue_at
   queue_read =
       let m : n ≡ a - 1 = omega arith in
       ap (λ (x : ℕ). get_or t.queues x no_queue) m ∙ at_any t.queues (a - 1) no_queue (laid []) (omega arith)
 
-  pub held_read : (get_or t.queues n no_queue).held ≡ held_in t a
-  unfolding held_in
-  held_read = ap (λ (q : Queue). q.held) queue_read
-
-  pub sessions_read : sessions_of a (get_or t.queues n no_queue) ≡ queue_of t a
+-- and its sessions and its number held, by the queue's own value
+module _ (t : Table) (a own : ℕ) (is : suc own ≡ a) (q : Queue) (e : q ≡ queue_at t (suc own)) where
+  pub sessions_own : sessions_of a q ≡ queue_of t a
   unfolding queue_of
-  sessions_read = ap (sessions_of a) queue_read
+  sessions_own = ap (sessions_of a) (e ∙ ap (queue_at t) is)
+
+  pub held_own : q.held ≡ held_in t a
+  unfolding held_in
+  held_own = ap (λ (x : Queue). x.held) (e ∙ ap (queue_at t) is)
 
 -- ---- the queue of an axle
 

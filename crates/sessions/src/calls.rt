@@ -7,6 +7,7 @@ use crate::row::{Row, Weighed};
 use crate::table::Table;
 use refusal::{Reason, Refusal, refuse};
 
+// Kept: the flags and numbers of the answers are the C interface.
 #[repr(C)]
 #[derive(Clone, Copy)]
 pub struct Stored {
@@ -90,23 +91,16 @@ impl Table {
     }
 
     // One session goes, if any, and the new one is written last.
-    pub fn store(
-        mut self,
-        axle: u8,
-        identifier: &[u8],
-        ems: bool,
-        suite: u16,
-        secret: &[u8],
-    ) -> Stored
+    pub fn store(self, axle: u8, identifier: &[u8], ems: bool, suite: u16, secret: &[u8]) -> Stored
         ensures { Stores self (record { axle = axle; identifier = identifier.now; ems = ems; suite = suite; secret = secret.now }) result }
     {
-        let refusal = Refusal::of(self.write(axle, identifier, ems, suite, secret));
-        Stored {
-            refusal,
-            table: self,
-        }
+        let mut table = self;
+        let refusal = Refusal::of(table.write(axle, identifier, ems, suite, secret));
+        Stored { refusal, table }
     }
 
+    // Apart, so that `store` holds the table once.
+    #[inline(never)]
     fn write(
         &mut self,
         axle: u8,
@@ -154,28 +148,31 @@ impl Table {
         ensures { LooksUp self.now axle identifier.now out.old (looked_in result) out.new }
     {
         let own = named_place(axle, identifier)?;
-        let Some(row) = self.queues[own].named(identifier) else {
+        let queue = self.queue(own);
+        let Some(row) = queue.named(identifier) else {
             return Ok(None);
         };
         octets::put(out, &row.secret)?;
         Ok(Some(row.weighed()))
     }
 
-    pub fn withdraw(mut self, axle: u8, identifier: &[u8]) -> Withdrawn
+    pub fn withdraw(self, axle: u8, identifier: &[u8]) -> Withdrawn
         ensures { Withdraws self axle identifier.now result }
     {
-        let (refusal, withdrawn) = match self.strike(axle, identifier) {
+        let mut table = self;
+        let (refusal, withdrawn) = match table.strike(axle, identifier) {
             Ok(found) => (refuse(0), u8::from(found)),
             Err(reason) => (Refusal::from(reason), 0),
         };
         Withdrawn {
             refusal,
             withdrawn,
-            table: self,
+            table,
         }
     }
 
-    // Strikes the session of that axle and identifier out; was one there?
+    // Strikes the session of that axle and identifier out; was one there? Apart, so that `withdraw` holds the table once.
+    #[inline(never)]
     fn strike(&mut self, axle: u8, identifier: &[u8]) -> Result<bool, Reason>
         ensures { Withdraws self.old axle identifier.now (withdrawn_in result self.new) }
     {
@@ -199,7 +196,7 @@ impl Table {
                 };
             }
         };
-        let held = self.queues[own].held;
+        let held = self.queue(own).held;
         let count = held.min(8);
         Held {
             refusal: refuse(0),
@@ -223,7 +220,8 @@ impl Table {
         let Ok(own) = named_place(axle, identifier) else {
             return None;
         };
-        let row = self.queues[own].named(identifier)?;
+        let queue = self.queue(own);
+        let row = queue.named(identifier)?;
         Some(row.weighed())
     }
 }

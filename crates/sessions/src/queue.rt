@@ -9,6 +9,7 @@ ghost use Rattle.sessions.specs.Places.{session_at};
 use crate::row::Row;
 
 // The first `held` places count, the others are blank.
+// Kept: C interface.
 #[repr(C)]
 #[derive(Clone, Copy)]
 pub struct Queue {

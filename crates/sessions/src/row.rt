@@ -6,6 +6,7 @@ ghost use Rattle.sessions.specs.Promises.{weighed};
 
 // The identifier is the first `size` bytes; 0 in `ems` is no, everything else yes; of the suite the high byte comes first. It is two
 // bytes and no number, so that a table has no padding.
+// Kept: C interface.
 #[repr(C)]
 #[derive(Clone, Copy)]
 pub struct Row {
@@ -49,7 +50,7 @@ impl Row {
         Row {
             ems: u8::from(ems),
             size: identifier.len() as u8,
-            suite: [(suite / 256) as u8, (suite % 256) as u8],
+            suite: suite.to_be_bytes(),
             identifier: name,
             secret: key,
         }
@@ -72,7 +73,7 @@ impl Row {
     {
         Weighed {
             ems: self.ems != 0,
-            suite: octets::number(self.suite[0], self.suite[1]),
+            suite: u16::from_be_bytes(self.suite),
         }
     }
 }

@@ -1,7 +1,7 @@
 // A queue for each axle, that of axle 1 first.
 ghost use Rattle.std.specs.Prelude.{◌≡◌, suc, ◌<◌, IfSome, length};
 ghost use Rattle.sessions.specs.Book.{Book, empty, fullest};
-ghost use Rattle.sessions.specs.Keeps.{Sound, table_of, Keeps};
+ghost use Rattle.sessions.specs.Keeps.{Sound, table_of, Keeps, queue_at};
 ghost use Rattle.sessions.specs.Places.{Leaves};
 
 use crate::queue::Queue;
@@ -25,6 +25,23 @@ impl Table {
     {
         Table {
             queues: [Queue::blank(); 6],
+        }
+    }
+
+    // The queue at `own`.
+    // Kept: places as literals, since an index of a variable copies the whole table to the stack, over AXLE_STACK_TABLE_LOOK_UP and _HELD.
+    #[inline(always)]
+    pub(crate) fn queue(&self, own: usize) -> Queue
+        requires { own < 6 }
+        ensures { result ≡ queue_at self.now (suc own) }
+    {
+        match own {
+            0 => self.queues[0],
+            1 => self.queues[1],
+            2 => self.queues[2],
+            3 => self.queues[3],
+            4 => self.queues[4],
+            _ => self.queues[5],
         }
     }
 
