@@ -10,8 +10,12 @@ use sha384::Hash384;
 
 fn main(rt: HostRuntime) {
     let mut cases = io::large_buffer();
-    let read = stdio::read_from(&mut rt.stdin(), &mut cases);
-    run(&rt, &cases[..read.length]);
+    // What came before a read that failed is run too.
+    let n = match stdio::read_from(&mut rt.stdin(), &mut cases) {
+        Ok(n) => n,
+        Err(failed) => failed.length,
+    };
+    run(&rt, &cases[..n]);
 }
 
 // Each case in turn, up to the first that is not whole.
