@@ -6,7 +6,7 @@ ghost use Rattle.sha384.specs.Promise.{Absorbs, Takes, digested_of};
 
 use crate::compress::{State384, initial, output};
 use fips180::{MOST, Words};
-use refusal::Refusal;
+use refusal::{Reason, Refusal, refuse};
 
 #[repr(C)]
 #[derive(Clone, Copy)]
@@ -83,13 +83,13 @@ impl Hash384 {
     pub fn absorb(self, bytes: &[u8]) -> Absorbed384
         ensures { Absorbs self bytes.now result }
     {
-        let refusal = refusal::refuse(0);
+        let refusal = refuse(0);
         let mut r = Absorbed384 {
             refusal,
             hash: self,
         };
         if self.exceeds(bytes.len() as u64) {
-            r.refusal = refusal::refuse(10);
+            r.refusal = Refusal::from(Reason::Length);
             return r;
         }
         let mut worked = 0;
@@ -116,7 +116,7 @@ pub fn sha384(message: &[u8]) -> Digested384
     ensures { result ≡ digested_of message.now }
 {
     if MOST < message.len() as u64 {
-        let refusal = refusal::refuse(10);
+        let refusal = Refusal::from(Reason::Length);
         return Digested384 {
             refusal,
             digest: [0; 48],
@@ -126,6 +126,6 @@ pub fn sha384(message: &[u8]) -> Digested384
     let mut v = initial();
     fips180::whole(&mut v, &mut block, message);
     let digest = output(v);
-    let refusal = refusal::refuse(0);
+    let refusal = refuse(0);
     Digested384 { refusal, digest }
 }

@@ -11,14 +11,15 @@ use Rattle.sha256.proofs.OneShot.{digested, undigested}
 use Rattle.sha256.proofs.running.sha256.Goals as goal
 
 pub returns-then-message-gt-MOST : goal.returns-then-message-gt-MOST
+unfolding refusal_of
 returns-then-message-gt-MOST c =
     let m = c.args.message.now in
-    undigested m c.refuse-refusal.result (c.refuse-refusal.ensures ∙ ap refusal_of (sym (number_over 0 (length m) (omega arith)))) (omega arith)
+    undigested m c.from-refusal.result (c.from-refusal.ensures ∙ ap refusal_of (sym (number_over 0 (length m) (omega arith)))) (omega arith)
 
 pub returns : goal.returns
 unfolding sha256
 returns c =
     let m = c.args.message.now in
     let w : length m ≤ most = omega arith in
-    digested m c.refuse-refusal-2.result (c.refuse-refusal-2.ensures ∙ ap refusal_of (sym (number_within 0 (length m) (omega arith)))) c.output-digest.result w
+    digested m c.refuse-refusal.result (c.refuse-refusal.ensures ∙ ap refusal_of (sym (number_within 0 (length m) (omega arith)))) c.output-digest.result w
     (c.output-digest.ensures ∙ ap output (c.whole.ensures ∙ ap (λ (v : Value). hashed v (length (padded m) / 64) (padded m)) c.initial-v.ensures))

@@ -7,12 +7,12 @@ use Rattle.sha384.specs.Laws.{number_over, number_within}
 use Rattle.sha384.proofs.running.Hash384.absorb.Goals as goal
 
 pub returns-then-exceeds : goal.returns-then-exceeds
-unfolding taken
+unfolding taken refusal_of
 returns-then-exceeds c =
     let a = c.args in
     let w : most < a.self.length + length a.bytes.now = ltb-true most _ (sym c.exceeds.ensures ∙ c.if-exceeds.true) in
     record {
-      refusal = c.refuse-r.ensures ∙ ap refusal_of (sym (number_over a.self.length (length a.bytes.now) w));
+      refusal = c.from-r.ensures ∙ ap refusal_of (sym (number_over a.self.length (length a.bytes.now) w));
       refused = λ _. refl;
       runs = λ m h g. absurd (omega (arith, h.holds.counted));
     }
