@@ -8,7 +8,8 @@ ghost use Rattle.sha256.specs.Compress.{output};
 use crate::words::bytes;
 use fips180::Words;
 
-// Eight words: the working variables of the rounds, or the hash value. Contracts speak of them as `Value` of specs/.
+// Eight words, as C has the hash value. Contracts speak of them as `Value` of specs/.
+// Kept: C interface: a struct with a type parameter, or a field of such a type, is refused in the signature of an exported function.
 #[repr(C)]
 #[derive(Clone, Copy)]
 pub struct State {

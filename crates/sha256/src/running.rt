@@ -8,6 +8,7 @@ use crate::compress::{State, initial, output};
 use fips180::{MOST, Words};
 use refusal::{Reason, Refusal, refuse};
 
+// Kept: C interface.
 #[repr(C)]
 #[derive(Clone, Copy)]
 pub struct Hash {
@@ -18,6 +19,7 @@ pub struct Hash {
     pub length: u64,
 }
 
+// Kept: C interface.
 #[repr(C)]
 #[derive(Clone, Copy)]
 pub struct Absorbed {
@@ -25,6 +27,7 @@ pub struct Absorbed {
     pub hash: Hash,
 }
 
+// Kept: C interface.
 #[repr(C)]
 #[derive(Clone, Copy)]
 pub struct Digested {

@@ -8,6 +8,7 @@ use crate::compress::{State384, initial, output};
 use fips180::{MOST, Words};
 use refusal::{Reason, Refusal, refuse};
 
+// Kept: C interface.
 #[repr(C)]
 #[derive(Clone, Copy)]
 pub struct Hash384 {
@@ -18,6 +19,7 @@ pub struct Hash384 {
     pub length: u64,
 }
 
+// Kept: C interface.
 #[repr(C)]
 #[derive(Clone, Copy)]
 pub struct Absorbed384 {
@@ -25,6 +27,7 @@ pub struct Absorbed384 {
     pub hash: Hash384,
 }
 
+// Kept: C interface.
 #[repr(C)]
 #[derive(Clone, Copy)]
 pub struct Digested384 {

@@ -7,8 +7,7 @@ pub(crate) fn bytes(w: [u64; 6]) -> [u8; 48]
     ensures { result ≡ bytes_of big 8 w }
 {
     let mut b = [0u8; 48];
-    let mut t = 0;
-    while t < 6 {
+    for t in 0..6 {
         let x = w[t];
         b[8 * t] = (x / 72057594037927936 % 256) as u8;
         b[8 * t + 1] = (x / 281474976710656 % 256) as u8;
@@ -18,7 +17,6 @@ pub(crate) fn bytes(w: [u64; 6]) -> [u8; 48]
         b[8 * t + 5] = (x / 65536 % 256) as u8;
         b[8 * t + 6] = (x / 256 % 256) as u8;
         b[8 * t + 7] = (x % 256) as u8;
-        t += 1;
     }
     b
 }
