@@ -43,6 +43,7 @@ fn lowest(message: &[u8], list: usize, low: usize) -> Option<Found>
 {
     let mut best = None;
     let mut at = list;
+    // Kept: C interface, whose `Next` has the flag and the place to ask next.
     loop {
         let next = next_extension(message, at);
         if next.found == 0 {

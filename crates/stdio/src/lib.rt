@@ -23,6 +23,7 @@ pub fn read_from<R: Read>(reader: &mut R, buffer: &mut [u8]) -> Result<usize, Fa
     ensures prefix_len { MatchResult result (λ n. IsPrefixLen n buffer.new) (λ f. IsPrefixLen f.length buffer.new) }
 {
     let mut length: usize = 0;
+    // Kept: no plainer form; each read says how far the next one begins, and std's `read_exact` loses how many bytes came.
     while length < buffer.len() {
         let more = match reader.read(&mut buffer[length..]) {
             Ok(more) => more,
