@@ -51,20 +51,16 @@ use Rattle.message_log.proofs.Standing.{by_whole, by_parted, far, carried, takin
 
 -- a secret of 48 bytes is not refused
 module _ (H : HashFunction) (secret : List ℕ) (b : Bool) (hash : List ℕ) where
-  pub verified : (r : Result (List ℕ) Reason) → length secret ≡ 48 → refused r ≡ verified_of H secret b hash → r ≡ Ok (verify_data H secret b hash)
+  pub not_refused : (r : Result (List ℕ) Reason) → length secret ≡ 48 → refused r ≡ verified_of H secret b hash → r ≡ Ok (verify_data H secret b hash)
   unfolding verified_of verify_number first_of
-  verified (Ok x) n e = let f : Ok x ≡ Ok (verify_data H secret b hash) = rw (eq-eqb (length secret) 48 n) at e in cc
-  verified (Err r) n e = let f : Err (refusal_for r) ≡ Ok (verify_data H secret b hash) = rw (eq-eqb (length secret) 48 n) at e in absurd cc
+  not_refused (Ok x) n e = let f : Ok x ≡ Ok (verify_data H secret b hash) = rw (eq-eqb (length secret) 48 n) at e in cc
+  not_refused (Err r) n e = let f : Err (refusal_for r) ≡ Ok (verify_data H secret b hash) = rw (eq-eqb (length secret) 48 n) at e in absurd cc
 
 -- verify_data of the Finished that is due, from what the calls answer
-pub expected_by : (h : History) (secret hash value : List ℕ) (b : Bool) (a : Algorithm) (r : Result (List ℕ) Reason) → length secret ≡ 48
-    → refused r ≡ verified_of (function_of a) secret b hash → r ≡ Ok value → b ≡ from_server h → suite_of h ≡ a → hash ≡ digest_of a (hashed h)
-    → value ≡ expected_value h secret
+pub expected_by : (h : History) (secret hash value : List ℕ) (b : Bool) (a : Algorithm) → value ≡ verify_data (function_of a) secret b hash
+    → b ≡ from_server h → suite_of h ≡ a → hash ≡ digest_of a (hashed h) → value ≡ expected_value h secret
 unfolding expected_value
-expected_by h secret hash value b a r n e v f i g =
-    let x : Ok value ≡ Ok (verify_data (function_of a) secret b hash) = sym v ∙ verified (function_of a) secret b hash r n e in
-    let y : value ≡ verify_data (function_of a) secret b hash = cc in
-    rw (← f, i, ← g) y
+expected_by h secret hash value b a e f i g = rw (← f, i, ← g) e
 
 -- is one due, as the log has it: between parts none is
 module _ (log : Log) where

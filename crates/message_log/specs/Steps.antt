@@ -25,7 +25,9 @@ use Rattle.message_log.specs.Finish.{finish_number, Checked}
 use Rattle.message_log.specs.Feed.{begun, feed_number}
 use Rattle.message_log.specs.Stands.{Stands, Unparted, number, hash_number}
 use Rattle.message_log.specs.Places.{DueTo}
+use Rattle.message_log.specs.Promise.{Finishes}
 use Rattle.message_log.specs.declared.order.Due.{Due}
+use Rattle.message_log.specs.declared.finish.Carried.{Carried}
 use Rattle.message_log.specs.declared.state.Log.{Log}
 use Rattle.message_log.specs.declared.state.Turn.{Turn}
 use Rattle.message_log.specs.declared.answers.Accepted.{Accepted}
@@ -141,3 +143,8 @@ abbrev pub Takes : Log → List ℕ → List ℕ → Due → Log → Type 0
 Takes log m value due r =
     (h : History) (secret : List ℕ) → Stands log (whole h) → length m ≤ 16388 → DueTo h due → Checked h m secret → body_of m ≡ value
     → Stands r (whole (accepted h m (under secret)))
+
+-- one that is due, and the value that it carries, or refused
+pub record Checks (log : Log) (secret m : List ℕ) (r : Result Carried Reason) : Type 0 where
+  pub refused : IfErr r (λ reason. Finishes log secret m (record { refusal = refusal_for reason; log = log }))
+  pub taken : IfOk r (λ x. (left : Log) → Takes log m x.value x.due left → Finishes log secret m (record { refusal = refusal_of 0; log = left }))

@@ -1,5 +1,7 @@
 // A Finished: what is expected of it, and the one call that checks and takes it.
 ghost use Rattle.std.specs.Prelude.{◌≡◌, length};
+ghost use Rattle.prf.specs.Hash.{hash_over};
+ghost use Rattle.prf.specs.Secrets.{verify_data};
 ghost use Rattle.message_log.specs.History.{History, from_server};
 ghost use Rattle.message_log.specs.Standing.{Standing};
 ghost use Rattle.message_log.specs.Standing.Standing.{whole};
@@ -7,12 +9,13 @@ ghost use Rattle.message_log.specs.Finish.{expected_value};
 ghost use Rattle.message_log.specs.Stands.{Stands};
 ghost use Rattle.message_log.specs.Places.{IsDueTo};
 ghost use Rattle.message_log.specs.Promise.{Finishes, Expects};
-ghost use Rattle.message_log.specs.Steps.{answered, expected_by, Asks, Takes};
+ghost use Rattle.message_log.specs.Steps.{expected_by, Asks, Checks, Takes};
 
 use crate::answers::{Accepted, Expected};
 use crate::order::{Due, Place};
 use crate::state::Log;
 use crate::{kind, shape};
+use prf::Begun;
 use refusal::{Reason, Refusal, refuse};
 use sha256::State;
 use sha384::State384;
@@ -20,33 +23,53 @@ use sha384::State384;
 // How long a master secret is.
 const SECRET: usize = 48;
 
+// A Finished that is due, and the verify_data that it carries, as is expected of it.
+#[derive(Clone, Copy)]
+pub(crate) struct Carried {
+    pub due: Due,
+    pub value: [u8; 12],
+}
+
 impl Log {
     // The Finished that is due is checked and taken, or refused.
-    pub fn finish(mut self, secret: &[u8], message: &[u8]) -> Accepted
+    pub fn finish(self, secret: &[u8], message: &[u8]) -> Accepted
         ensures { Finishes self secret.now message.now result }
     {
-        let refusal = Refusal::of(self.try_finish(secret, message));
-        Accepted { refusal, log: self }
+        match self.checked(secret, message) {
+            Ok(carried) => {
+                let value = carried.value;
+                let log = self.taking(message, value, carried.due);
+                return Accepted {
+                    refusal: refuse(0),
+                    log,
+                };
+            }
+            Err(reason) => {
+                return Accepted {
+                    refusal: Refusal::from(reason),
+                    log: self,
+                };
+            }
+        }
     }
 
-    // Refused, the log is as it was.
-    fn try_finish(&mut self, secret: &[u8], message: &[u8]) -> Result<(), Reason>
-        ensures { Finishes self.old secret.now message.now (answered result self.new) }
+    // Asks before a byte is taken.
+    fn checked(&self, secret: &[u8], message: &[u8]) -> Result<Carried, Reason>
+        ensures { Checks self.now secret.now message.now result }
     {
         let due = self.ask(secret, message)?;
         let value = self.value(secret, due.server);
         if !shape::carries(message, value) {
             return Err(Reason::Differs);
         }
-        self.taking(message, value, due);
-        Ok(())
+        Ok(Carried { due, value })
     }
 
-    // The log takes a Finished with this verify_data. In a frame of its own, so that it is not on the stack beside the keys of the
-    // expected value.
+    // The log that has taken a Finished with this verify_data. By value and in a frame of its own, so that it is not on the stack beside the
+    // keys of the expected value.
     #[inline(never)]
-    fn taking(&mut self, message: &[u8], value: [u8; 12], due: Due)
-        ensures { Takes self.old message.now value due self.new }
+    fn taking(mut self, message: &[u8], value: [u8; 12], due: Due) -> Log
+        ensures { Takes self message.now value due result }
     {
         let chosen = self.hash.chosen();
         self.hash.take(message, chosen);
@@ -56,6 +79,7 @@ impl Log {
         } else {
             self.client = value;
         }
+        self
     }
 
     // What is asked before the value is computed.
@@ -114,10 +138,21 @@ impl Log {
         ensures { (h : History) → Stands self.now (whole h) → server ≡ from_server h → result ≡ expected_value h secret.now }
     {
         if self.hash.is_sha384() {
-            let hash = self.hash.digest384();
-            return prf::verify_data::<128, 48, State384>(secret, server, hash).unwrap();
+            return verified::<128, 48, State384>(secret, server, self.hash.digest384());
         }
-        let hash = self.hash.digest256();
-        prf::verify_data::<64, 32, State>(secret, server, hash).unwrap()
+        verified::<64, 32, State>(secret, server, self.hash.digest256())
     }
+}
+
+// In a frame of its own for each hash, so that neither has the other's locals on the stack.
+#[inline(never)]
+fn verified<const BLOCK: usize, const DIGEST: usize, H: Begun<BLOCK, DIGEST>>(
+    secret: &[u8],
+    server: bool,
+    hash: [u8; DIGEST],
+) -> [u8; 12]
+    requires { length secret.now ≡ 48 }
+    ensures { result ≡ verify_data (hash_over H.hash BLOCK DIGEST) secret.now server hash.entry }
+{
+    prf::verify_data::<BLOCK, DIGEST, H>(secret, server, hash).unwrap()
 }
