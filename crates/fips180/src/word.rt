@@ -73,6 +73,7 @@ pub trait Word: Copy {
     ghost narrow: { (0 < kind.bytes) × (kind.bytes ≤ 8) };
 }
 
+// Kept: `add`, `choice` and `majority` are alike in both; as bodies of the trait they want `^`, `&` and their laws as bounds, for a line each.
 impl Word for u32 {
     ghost kind = { words32 };
 

@@ -12,6 +12,7 @@ use fips180::Words;
 // The most bytes that two blocks hold before the padding: it has one byte for the one bit, and eight for the length.
 const ROOM: usize = 119;
 
+// Kept: C interface, as the struct; what they do is `fips180`'s.
 impl State {
     pub fn of_block(b: [u8; 64]) -> State
         ensures { Begins result b }

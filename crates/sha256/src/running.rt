@@ -35,6 +35,7 @@ pub struct Digested {
     pub digest: [u8; 32],
 }
 
+// Kept: C interface, a struct and its calls for each hash; what they do is `fips180`'s.
 impl Hash {
     pub fn fresh() -> Hash
         ensures { Running result [] }

@@ -12,6 +12,7 @@ use fips180::Words;
 // The most bytes that two blocks hold before the padding: it has one byte for the one bit, and sixteen for the length.
 const ROOM: usize = 239;
 
+// Kept: C interface, as the struct; what they do is `fips180`'s.
 impl State384 {
     pub fn of_block(b: [u8; 128]) -> State384
         ensures { Begins result b }

@@ -35,6 +35,7 @@ pub struct Digested384 {
     pub digest: [u8; 48],
 }
 
+// Kept: C interface, a struct and its calls for each hash; what they do is `fips180`'s.
 impl Hash384 {
     pub fn fresh() -> Hash384
         ensures { Running result [] }

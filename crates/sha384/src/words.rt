@@ -2,6 +2,7 @@
 ghost use Rattle.std.specs.Prelude.{◌≡◌};
 ghost use Rattle.seqs.specs.Words.{big, bytes_of};
 
+// Kept: over `Word` each would be a method of the trait with two bodies, a loop over it and a law of both, for these few lines.
 // Division and remainder by a literal: what `>>` and a cast would do.
 pub(crate) fn bytes(w: [u64; 6]) -> [u8; 48]
     ensures { result ≡ bytes_of big 8 w }
