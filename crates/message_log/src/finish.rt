@@ -9,7 +9,7 @@ ghost use Rattle.message_log.specs.Finish.{expected_value};
 ghost use Rattle.message_log.specs.Stands.{Stands};
 ghost use Rattle.message_log.specs.Places.{IsDueTo};
 ghost use Rattle.message_log.specs.Promise.{Finishes, Expects};
-ghost use Rattle.message_log.specs.Steps.{expected_by, Asks, Checks, Takes};
+ghost use Rattle.message_log.specs.Steps.{answered, expected_by, Asks, Checks, Takes};
 
 use crate::answers::{Accepted, Expected};
 use crate::order::{Due, Place};
@@ -32,25 +32,20 @@ pub(crate) struct Carried {
 
 impl Log {
     // The Finished that is due is checked and taken, or refused.
-    pub fn finish(self, secret: &[u8], message: &[u8]) -> Accepted
+    pub fn finish(mut self, secret: &[u8], message: &[u8]) -> Accepted
         ensures { Finishes self secret.now message.now result }
     {
-        match self.checked(secret, message) {
-            Ok(carried) => {
-                let value = carried.value;
-                let log = self.taking(message, value, carried.due);
-                return Accepted {
-                    refusal: refuse(0),
-                    log,
-                };
-            }
-            Err(reason) => {
-                return Accepted {
-                    refusal: Refusal::from(reason),
-                    log: self,
-                };
-            }
-        }
+        let refusal = Refusal::of(self.try_finish(secret, message));
+        Accepted { refusal, log: self }
+    }
+
+    fn try_finish(&mut self, secret: &[u8], message: &[u8]) -> Result<(), Reason>
+        ensures { Finishes self.old secret.now message.now (answered result self.new) }
+    {
+        let carried = self.checked(secret, message)?;
+        let value = carried.value;
+        self.taking(message, value, carried.due);
+        Ok(())
     }
 
     // Asks before a byte is taken.
@@ -65,11 +60,9 @@ impl Log {
         Ok(Carried { due, value })
     }
 
-    // The log that has taken a Finished with this verify_data. By value and in a frame of its own, so that it is not on the stack beside the
-    // keys of the expected value.
-    #[inline(never)]
-    fn taking(mut self, message: &[u8], value: [u8; 12], due: Due) -> Log
-        ensures { Takes self message.now value due result }
+    // A Finished with this verify_data is taken where the log lies.
+    fn taking(&mut self, message: &[u8], value: [u8; 12], due: Due)
+        ensures { Takes self.old message.now value due self.new }
     {
         let chosen = self.hash.chosen();
         self.hash.take(message, chosen);
@@ -79,7 +72,6 @@ impl Log {
         } else {
             self.client = value;
         }
-        self
     }
 
     // What is asked before the value is computed.

@@ -213,7 +213,9 @@ impl Table {
         }
     }
 
-    // What is weighed of the session of that axle and identifier, if there is one. No secret is handed out.
+    // What is weighed of the session of that axle and identifier, if there is one. No secret is handed out. Apart, so that a decision has
+    // not its row on the stack beside the reading of the hello.
+    #[inline(never)]
     pub fn known(&self, axle: u8, identifier: &[u8]) -> Option<Weighed>
         ensures { Knows self.now axle identifier.now result }
     {

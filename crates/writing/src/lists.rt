@@ -73,7 +73,8 @@ impl<'a> List<'a> {
         self.any(|(kind, data)| !well_shaped(kind as usize, data))
     }
 
-    // A type stands twice. Each type is compared with all behind it, up to the first repeat.
+    // A type stands twice. Each type is compared with all behind it, up to the first repeat. Inline, for the same reason as `judge`.
+    #[inline(always)]
     pub(crate) fn repeats(&self) -> bool
         ensures { result ≡ repeats self.now.types.now }
     {

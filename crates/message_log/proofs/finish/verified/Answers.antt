@@ -1,7 +1,6 @@
 -- A secret of 48 bytes is not refused.
 -- Assumes nothing.
-use mathlib.Core.Path.{◌≡◌, refl, sym, ◌∙◌}
-use Rattle.std.proofs.Common.{Ok}
+use mathlib.Core.Path.{sym, ◌∙◌}
 use Rattle.message_log.proofs.Finishing.{not_refused}
 use Rattle.message_log.proofs.finish.verified.Goals as goal
 
