@@ -49,8 +49,8 @@ impl Hash384 {
     }
 
     // How many bytes wait for their block to be full.
-    pub fn waiting(&self) -> usize
-        ensures { result ≡ taken self.now % 128 }
+    pub fn waiting(self) -> usize
+        ensures { result ≡ taken self % 128 }
     {
         (self.length % 128) as usize
     }
@@ -77,8 +77,8 @@ impl Hash384 {
     }
 
     // Would n bytes more be too many?
-    pub fn exceeds(&self, n: u64) -> bool
-        ensures { result ≡ nat_lt most (taken self.now + n) }
+    pub fn exceeds(self, n: u64) -> bool
+        ensures { result ≡ nat_lt most (taken self + n) }
     {
         fips180::exceeds(self.length, n)
     }
@@ -102,8 +102,8 @@ impl Hash384 {
     }
 
     // The padding is laid into the last block, or the last two.
-    pub fn digest(&self) -> [u8; 48]
-        ensures { (m : List ℕ) → Running self.now m → result ≡ sha384 m }
+    pub fn digest(self) -> [u8; 48]
+        ensures { (m : List ℕ) → Running self m → result ≡ sha384 m }
     {
         if MOST < self.length {
             return [0; 48];
