@@ -9,7 +9,7 @@ ghost use Rattle.message_log.specs.Finish.{expected_value};
 ghost use Rattle.message_log.specs.Stands.{Stands};
 ghost use Rattle.message_log.specs.Places.{IsDueTo};
 ghost use Rattle.message_log.specs.Promise.{Finishes, Expects};
-ghost use Rattle.message_log.specs.Steps.{answered, expected_by, Asks, Checks, Takes};
+ghost use Rattle.message_log.specs.Steps.{expected_by, Asks, Checks, Takes};
 
 use crate::answers::{Accepted, Expected};
 use crate::order::{Due, Place};
@@ -32,25 +32,30 @@ pub(crate) struct Carried {
 
 impl Log {
     // The Finished that is due is checked and taken, or refused.
-    pub fn finish(mut self, secret: &[u8], message: &[u8]) -> Accepted
+    pub fn finish(self, secret: &[u8], message: &[u8]) -> Accepted
         ensures { Finishes self secret.now message.now result }
     {
-        let refusal = Refusal::of(self.try_finish(secret, message));
-        Accepted { refusal, log: self }
+        match self.checked(secret, message) {
+            Ok(carried) => {
+                let value = carried.value;
+                let log = self.taking(message, value, carried.due);
+                return Accepted {
+                    refusal: refuse(0),
+                    log,
+                };
+            }
+            Err(reason) => {
+                return Accepted {
+                    refusal: Refusal::from(reason),
+                    log: self,
+                };
+            }
+        }
     }
 
-    fn try_finish(&mut self, secret: &[u8], message: &[u8]) -> Result<(), Reason>
-        ensures { Finishes self.old secret.now message.now (answered result self.new) }
-    {
-        let carried = self.checked(secret, message)?;
-        let value = carried.value;
-        self.taking(message, value, carried.due);
-        Ok(())
-    }
-
-    // Asks before a byte is taken.
-    fn checked(&self, secret: &[u8], message: &[u8]) -> Result<Carried, Reason>
-        ensures { Checks self.now secret.now message.now result }
+    // Asks before a byte is taken. A log goes by value here: of one that is lent the compiler makes a copy in the caller's frame.
+    fn checked(self, secret: &[u8], message: &[u8]) -> Result<Carried, Reason>
+        ensures { Checks self secret.now message.now result }
     {
         let due = self.ask(secret, message)?;
         let value = self.value(secret, due.server);
@@ -60,9 +65,11 @@ impl Log {
         Ok(Carried { due, value })
     }
 
-    // A Finished with this verify_data is taken where the log lies.
-    fn taking(&mut self, message: &[u8], value: [u8; 12], due: Due)
-        ensures { Takes self.old message.now value due self.new }
+    // The log that has taken a Finished with this verify_data. By value and in a frame of its own, so that it is not on the stack beside the
+    // keys of the expected value.
+    #[inline(never)]
+    fn taking(mut self, message: &[u8], value: [u8; 12], due: Due) -> Log
+        ensures { Takes self message.now value due result }
     {
         let chosen = self.hash.chosen();
         self.hash.take(message, chosen);
@@ -72,11 +79,12 @@ impl Log {
         } else {
             self.client = value;
         }
+        self
     }
 
     // What is asked before the value is computed.
-    fn ask(&self, secret: &[u8], message: &[u8]) -> Result<Due, Reason>
-        ensures { Asks self.now secret.now message.now result }
+    fn ask(self, secret: &[u8], message: &[u8]) -> Result<Due, Reason>
+        ensures { Asks self secret.now message.now result }
     {
         if secret.len() != SECRET {
             return Err(Reason::Length);
@@ -89,8 +97,8 @@ impl Log {
     }
 
     // The Finished that is in turn. Between the parts of a message none is.
-    fn due(&self) -> Option<Due>
-        ensures { (s : Standing) → Stands self.now s → IsDueTo s result }
+    fn due(self) -> Option<Due>
+        ensures { (s : Standing) → Stands self s → IsDueTo s result }
     {
         if self.left != 0 {
             return None;
@@ -114,8 +122,8 @@ impl Log {
         }
     }
 
-    fn try_expected(&self, secret: &[u8]) -> Result<[u8; 12], Reason>
-        ensures { Expects self.now secret.now (expected_by result) }
+    fn try_expected(self, secret: &[u8]) -> Result<[u8; 12], Reason>
+        ensures { Expects self secret.now (expected_by result) }
     {
         if secret.len() != SECRET {
             return Err(Reason::Length);
@@ -125,9 +133,9 @@ impl Log {
     }
 
     // The same of either side's, whichever is due, by the suite's hash.
-    fn value(&self, secret: &[u8], server: bool) -> [u8; 12]
+    fn value(self, secret: &[u8], server: bool) -> [u8; 12]
         requires { length secret.now ≡ 48 }
-        ensures { (h : History) → Stands self.now (whole h) → server ≡ from_server h → result ≡ expected_value h secret.now }
+        ensures { (h : History) → Stands self (whole h) → server ≡ from_server h → result ≡ expected_value h secret.now }
     {
         if self.hash.is_sha384() {
             return verified::<128, 48, State384>(secret, server, self.hash.digest384());

@@ -213,9 +213,7 @@ impl Table {
         }
     }
 
-    // What is weighed of the session of that axle and identifier, if there is one. No secret is handed out. Apart, so that a decision has
-    // not its row on the stack beside the reading of the hello.
-    #[inline(never)]
+    // What is weighed of the session of that axle and identifier, if there is one. No secret is handed out.
     pub fn known(&self, axle: u8, identifier: &[u8]) -> Option<Weighed>
         ensures { Knows self.now axle identifier.now result }
     {

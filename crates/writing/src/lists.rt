@@ -73,8 +73,7 @@ impl<'a> List<'a> {
         self.any(|(kind, data)| !well_shaped(kind as usize, data))
     }
 
-    // A type stands twice. Each type is compared with all behind it, up to the first repeat. Inline, for the same reason as `judge`.
-    #[inline(always)]
+    // A type stands twice. Each type is compared with all behind it, up to the first repeat.
     pub(crate) fn repeats(&self) -> bool
         ensures { result ≡ repeats self.now.types.now }
     {
