@@ -1,8 +1,7 @@
 #!/usr/bin/env python3
 """Counts the places of docs/DESIGN-PASS.md in crates/*/src: tools/design/count.py [COMMIT], of a commit or of the files here.
 
-Each point is a list of `file:line: text`; a place with a reason beside it, a comment of one line that begins `// Kept:` on the line
-before or behind it or at the head of its function, is counted as kept."""
+Each point is a list of `file:line: text` (-l shows it); a place that stays has a comment beside it that begins `// Kept:`, which this doesn't look at."""
 import difflib
 import glob
 import re

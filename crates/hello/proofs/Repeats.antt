@@ -1,13 +1,15 @@
--- A type that stands twice, among those behind some others.
+-- A type that stands twice, among those behind some others; and that there is a repeat exactly where one does.
 -- Assumes nothing.
 use mathlib.Core.Path.{◌≡◌, refl, sym, ◌∙◌, ap}
-use mathlib.Core.Bool.{Bool, true, false, ◌||◌}
+use mathlib.Core.Bool.{Bool, true, false, not, ◌||◌}
 use mathlib.Core.List.{List, [], ◌∷◌, ◌++◌}
-use Prim.Native.Nat.{ℕ}
+use Prim.Native.Nat.{ℕ, ◌+◌, ◌<◌}
+use native.Mathlib.Omega.{arith}
 use lib.Dec.{eqb}
+use lib.ListN.{length}
 use borrow.Author.Tests.{eq-eqb, ne_eqb, eqb-true, eqb-false}
 use Rattle.seqs.specs.Cases.{by_test}
-use Rattle.hello.specs.Extensions.{Extension, has}
+use Rattle.hello.specs.Extensions.{Extension, has, twice, repeat_from, repeat_at}
 
 -- one of es has a type that stands before
 unfoldable pub clash : List Extension → List Extension → Bool
@@ -47,3 +49,18 @@ pub clash_none : (es : List Extension) → clash [] es ≡ false
 unfolding clash has
 clash_none [] = refl
 clash_none (e ∷ es) = clash_none es
+
+repeat_found : (before : List Extension) (at : ℕ) (es : List Extension) → 0 < at → not (eqb (repeat_from before at es) 0) ≡ (clash before es || twice es)
+unfolding repeat_from clash twice
+repeat_found before at [] h = refl
+repeat_found before at (e ∷ es) h =
+    by_test (has e.kind before)
+    (λ p. rw (p, ne_eqb at 0 (λ z. omega arith)))
+    (λ p.
+    rw p
+    (repeat_found (before ++ (e ∷ [])) (at + 4 + length e.content) es (omega arith)
+    ∙ (rw (clash_more before e es) (or_assoc (clash before es) (has e.kind es) (twice es)))))
+
+-- there is a repeat exactly where a type stands twice
+pub repeat_twice : (at : ℕ) (es : List Extension) → 0 < at → not (eqb (repeat_at at es) 0) ≡ twice es
+repeat_twice at es h = repeat_found [] at es h ∙ (rw (clash_none es))
