@@ -4,11 +4,14 @@ ghost use Rattle.std.proofs.Math.Seq.{paste};
 ghost use Rattle.seqs.specs.Taken.{sealed};
 
 // The bytes b at index at.
+// Kept: byte by byte, since `copy_from_slice` asks for memmove, and the archive promises C to ask for memcpy and memset alone.
 pub(crate) fn lay(block: &mut [u8], at: usize, b: &[u8])
     requires { at + length b.now ≤ length block.old }
     ensures { block.new ≡ paste block.old at b.now (length b.now) }
 {
-    block[at..at + b.len()].copy_from_slice(b);
+    for i in 0..b.len() {
+        block[at + i] = b[i];
+    }
 }
 
 // A one bit behind the first at bytes, and zeros to the end of the block, whatever stood there. In a running hash zeros stand there
