@@ -1,24 +1,29 @@
 -- The last blocks of a message behind its first one, laid out in zeros.
 -- Assumes nothing.
-use Rattle.std.proofs.Common.{◌≡◌, ℕ, suc, ◌+◌, ◌-◌, ◌*◌, ◌<◌, ◌≤◌, List, [], ◌∷◌, ◌++◌, length, take, drop, set, replicate, sym, ap, ◌∙◌, ap₂, append-nil, append_assoc, arith, take_all, take_at, length-append, length-drop}
+use Rattle.std.proofs.Common.{◌≡◌, ℕ, suc, ◌+◌, ◌-◌, ◌*◌, ◌<◌, ◌≤◌, List, [], ◌∷◌, ◌++◌, length, take, drop, replicate, sym, ap, ◌∙◌, ap₂, append-nil, append_assoc, arith, take_all, take_at, length-append, length-drop}
 use Rattle.std.proofs.Math.Nat.{mul-zero, mul-one}
-use lib.Seq.{set_at, take-add, take-take, paste}
+use lib.Seq.{take-add, take-take, paste}
+use Rattle.std.proofs.lemmas.List.Edits.{length-paste, take-paste}
 use lib.ListN.{length-replicate, replicate-append-replicate}
 use borrow.Rule.Slice.PartMut.{put_mid}
 use Rattle.seqs.specs.Blocks.{after}
 use Rattle.seqs.specs.Words.{big, in_bytes}
 use Rattle.seqs.specs.Sha2.{Sha2, Value, step}
-use Rattle.seqs.proofs.ByHand.{three}
+use Rattle.seqs.specs.Taken.{sealed}
 use Rattle.seqs.proofs.FirstBlock.{ends_laid}
 use Rattle.fips180.specs.Kinds.{size, field}
 use Rattle.fips180.specs.Takes.{HashesTo}
 use Rattle.fips180.proofs.Lengths.{put_tail}
 
--- d, a one bit, and zeros
-pub sealed_at : (room : ℕ) (d : List ℕ) (n : ℕ) → length d ≡ n → n < room → set (d ++ replicate (room - n) 0) n 128 ≡ d ++ (128 ∷ replicate (room - n - 1) 0)
-sealed_at room d n e h =
-    let k : room - n ≡ suc (room - n - 1) = omega arith in
-    ap (λ (i : ℕ). set (d ++ replicate i 0) n 128) k ∙ set_at d 0 (replicate (room - n - 1) 0) 128 n e
+-- what is laid to the front
+pub take_laid : (b d : List ℕ) → length d ≤ length b → take (length d) (paste b 0 d (length d)) ≡ d
+take_laid b d h =
+    let z : length d ≡ 0 + length d = omega arith in
+    ap (λ (i : ℕ). take i (paste b 0 d (length d))) z ∙ take-paste b 0 d (length d) (omega arith) (omega arith) ∙ take_all (length d) d (omega arith)
+
+-- a one bit behind d, and zeros, whatever stood there
+pub sealed_by : (room : ℕ) (b d : List ℕ) (n : ℕ) → take n b ≡ d → sealed room b n ≡ d ++ (128 ∷ replicate (room - n - 1) 0)
+sealed_by room b d n h = ap₂ (λ (x : List ℕ) (i : ℕ). x ++ (128 ∷ replicate i 0)) h (omega arith)
 
 -- its front, up to where the length goes
 pub front : (room : ℕ) (d : List ℕ) (n z i : ℕ) → length d ≡ n → n + 1 + z ≡ i → i ≤ room
@@ -32,18 +37,23 @@ front room d n z i e f h =
     ∙ take_at (d ++ (128 ∷ replicate z 0)) (replicate (room - i) 0) i l
 
 -- three pieces, and a one bit behind them
-pub pieces : (room : ℕ) (x y z z0 : List ℕ) {b1 b2 b3 : List ℕ} → z0 ≡ replicate room 0
+pub pieces : (room : ℕ) (x y z z0 : List ℕ) {b1 b2 b3 : List ℕ} → length z0 ≡ room
     → b1 ≡ paste z0 0 x (length x) → b2 ≡ paste b1 (length x) y (length y) → b3 ≡ paste b2 (length x + length y) z (length z)
     → length x + length y + length z < room
-    → set b3 (length x + length y + length z) 128 ≡ (x ++ (y ++ z)) ++ (128 ∷ replicate (room - (length x + length y + length z) - 1) 0)
-pieces room x y z z0 e p q r h =
+    → sealed (length b3) b3 (length x + length y + length z) ≡ (x ++ (y ++ z)) ++ (128 ∷ replicate (room - (length x + length y + length z) - 1) 0)
+pieces room x y z z0 {b1} {b2} {b3} l p q r h =
     let n = length x + length y + length z in
-    let l : length (x ++ (y ++ z)) ≡ n = simp length-append (omega arith) in
-    ap (λ (b : List ℕ). set b n 128)
-    (r
-    ∙ ap (λ (b : List ℕ). paste b (length x + length y) z (length z)) (q ∙ ap (λ (b : List ℕ). paste b (length x) y (length y)) (p ∙ ap (λ (b : List ℕ). paste b 0 x (length x)) e))
-    ∙ three room x y z)
-    ∙ sealed_at room (x ++ (y ++ z)) n l h
+    let l1 : length b1 ≡ room = ap length p ∙ length-paste z0 0 x (length x) (omega arith) (omega arith) ∙ l in
+    let l2 : length b2 ≡ room = ap length q ∙ length-paste b1 (length x) y (length y) (omega arith) (omega arith) ∙ l1 in
+    let l3 : length b3 ≡ room = ap length r ∙ length-paste b2 (length x + length y) z (length z) (omega arith) (omega arith) ∙ l2 in
+    let t1 : take (length x) b1 ≡ x = ap (take (length x)) p ∙ take_laid z0 x (omega arith) in
+    let t2 : take (length x + length y) b2 ≡ x ++ y =
+    ap (take (length x + length y)) q ∙ take-paste b1 (length x) y (length y) (omega arith) (omega arith)
+    ∙ ap₂ (λ (i j : List ℕ). i ++ j) t1 (take_all (length y) y (omega arith)) in
+    let t3 : take n b3 ≡ x ++ (y ++ z) =
+    ap (take n) r ∙ take-paste b2 (length x + length y) z (length z) (omega arith) (omega arith)
+    ∙ ap₂ (λ (i j : List ℕ). i ++ j) t2 (take_all (length z) z (omega arith)) ∙ append_assoc x y z in
+    ap (λ (i : ℕ). sealed i b3 n) l3 ∙ sealed_by room b3 (x ++ (y ++ z)) n t3
 
 module _ {S : Type 0} (n : ℕ) (step : S → List ℕ → S) (s : S) (b : List ℕ) where
   after_one : after n step s 1 b ≡ step s (take n b)

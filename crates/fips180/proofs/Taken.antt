@@ -6,7 +6,7 @@ use Rattle.seqs.specs.Blocks.{after}
 use Rattle.seqs.specs.Sha2.{Sha2, Value, step}
 use Rattle.seqs.proofs.Taking.{holds_more, blocks_of, left_over}
 use Rattle.fips180.specs.Kinds.{size}
-use Rattle.fips180.specs.Takes.{TakesBytes}
+use Rattle.fips180.specs.Takes.{HoldsBytes, TakesBytes}
 
 -- the first of the new bytes, behind what waits
 pub filled_up : (n at : ℕ) (t b : List ℕ) → n - at ≤ length b → paste t at (take (n - at) b) (length (take (n - at) b)) ≡ paste t at b (n - at)
@@ -28,12 +28,12 @@ left_behind n p b z j left e h f =
 pub takes : (F : Sha2) (first : Value) {value next : Value} {t rest : List ℕ} (b : List ℕ) {taken worked : ℕ} (j left : ℕ) → 0 < size F
     → taken % size F + length b ≡ size F * j + left → left < size F
     → next ≡ after (size F) (step F) value j (take (taken % size F) t ++ b)
-    → rest ≡ drop (size F * j) (take (taken % size F) t ++ b) ++ replicate (size F - left) 0
+    → ((m : List ℕ) → HoldsBytes F first value t taken m → rest ≡ drop (size F * j) (take (taken % size F) t ++ b) ++ replicate (size F - left) 0)
     → length rest ≡ size F → worked ≡ j
     → TakesBytes F first value t taken b next rest worked
 takes F first b {taken} j left pos n r p q l e =
     record {
-      runs = λ m h. holds_more (size F) pos (step F) first m b h (taken % size F) j left (ap (λ (i : ℕ). i % size F) h.counted) refl n r p q;
+      runs = λ m h. holds_more (size F) pos (step F) first m b h (taken % size F) j left (ap (λ (i : ℕ). i % size F) h.counted) refl n r p (q m h);
       counts = e ∙ sym (blocks_of (size F) pos j left n r);
       long = l;
     }

@@ -10,5 +10,4 @@ mod words;
 
 pub use begun::{end_by, end_short, fits};
 pub use running::{MOST, end, exceeds, take, whole};
-pub use word::Word;
 pub use words::Words;

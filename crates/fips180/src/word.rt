@@ -9,7 +9,7 @@ ghost use Rattle.std.proofs.Common.{rules};
 
 use crate::constants::{K32, K64};
 
-pub trait Word: Copy {
+pub(crate) trait Word: Copy {
     // what the document has of its own for words of this width
     ghost kind: { Sha2 };
 

@@ -127,7 +127,7 @@ impl<W: Word> Words<W> {
     }
 
     // The block that starts at index at. In place, as all that works blocks: a hash value by value has a place in every frame.
-    pub fn compress(&mut self, b: &[u8], at: usize)
+    pub(crate) fn work(&mut self, b: &[u8], at: usize)
         requires { at + 16 * W.kind.bytes ≤ length b.now }
         ensures { value_of W.number self.new ≡ step W.kind (value_of W.number self.old) (take (16 * W.kind.bytes) (drop at b.now)) }
     {
@@ -143,5 +143,16 @@ impl<W: Word> Words<W> {
             g: s.g.add(v.g),
             h: s.h.add(v.h),
         };
+    }
+
+    // The same for callers elsewhere: where no whole block starts at index at, nothing changes.
+    pub fn compress(&mut self, b: &[u8], at: usize)
+        ensures block { at + 16 * W.kind.bytes ≤ length b.now → value_of W.number self.new ≡ step W.kind (value_of W.number self.old) (take (16 * W.kind.bytes) (drop at b.now)) }
+        ensures none { length b.now < at + 16 * W.kind.bytes → self.new ≡ self.old }
+    {
+        if b.len() < at || b.len() - at < W::block() {
+            return;
+        }
+        self.work(b, at);
     }
 }

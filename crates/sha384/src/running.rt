@@ -61,6 +61,10 @@ impl Hash384 {
         ensures { Takes self.old bytes.now self.new worked.new }
     {
         let taken = self.length;
+        // Of a running hash it is blank already; of a struct that no call made, a tail where nothing waits is blank behind a block.
+        if taken % 128 == 0 && 128 <= bytes.len() {
+            self.tail = [0; 128];
+        }
         self.length = taken.wrapping_add(bytes.len() as u64);
         let mut v = Words::from(self.state);
         fips180::take(&mut v, &mut self.tail, taken, bytes, worked);

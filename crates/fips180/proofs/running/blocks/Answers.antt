@@ -15,4 +15,4 @@ loop-i-preserved g c =
     let from = c.args.from in
     let i = c.loop-i.i in
     let e = ap (λ (n : ℕ). from + n * i) c.block-size.ensures in
-    (rw (c.compress.ensures, c.loop-i.invariant.0, add-one) (after_more (size F) (step F) _ c.args.b.now from i _ e), omega arith)
+    (rw (c.work.ensures, c.loop-i.invariant.0, add-one) (after_more (size F) (step F) _ c.args.b.now from i _ e), omega arith)

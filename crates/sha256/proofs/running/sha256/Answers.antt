@@ -1,6 +1,6 @@
 -- The hash of a whole message, or the refusal.
 -- Assumes nothing.
-use Rattle.std.proofs.Common.{◌/◌, ◌≤◌, length, sym, ap, ◌∙◌, arith}
+use Rattle.std.proofs.Common.{◌/◌, ◌≤◌, length, sym, ap, ◌∙◌, arith, rules}
 use Rattle.seqs.specs.Sha2.{Value}
 use Rattle.refusal.specs.Table.{refusal_of}
 use Rattle.sha256.specs.Compress.{output}
@@ -22,4 +22,4 @@ returns c =
     let m = c.args.message.now in
     let w : length m ≤ most = omega arith in
     digested m c.refuse-refusal.result (c.refuse-refusal.ensures ∙ ap refusal_of (sym (number_within 0 (length m) (omega arith)))) c.output-digest.result w
-    (c.output-digest.ensures ∙ ap output (c.whole.ensures ∙ ap (λ (v : Value). hashed v (length (padded m) / 64) (padded m)) c.initial-v.ensures))
+    (c.output-digest.ensures ∙ ap output (c.whole.ensures.whole (search rules) w ∙ ap (λ (v : Value). hashed v (length (padded m) / 64) (padded m)) c.initial-v.ensures))

@@ -1,6 +1,6 @@
 -- Where there is room, the three pieces and the padding are laid out, and worked.
 -- Assumes nothing.
-use Rattle.std.proofs.Common.{◌+◌, ◌<◌, length, sym, ap, ◌∙◌, arith, leb-false}
+use Rattle.std.proofs.Common.{◌+◌, ◌<◌, length, sym, ap, ◌∙◌, arith, leb-false, rules}
 use Rattle.sha256.specs.Constants.{initial}
 use Rattle.sha256.specs.Compress.{output}
 use Rattle.sha256.specs.Sha256.{sha256}
@@ -14,4 +14,4 @@ returns-then-not-fits c k h w =
 
 pub returns : goal.returns
 unfolding sha256
-returns c k h w = c.output.ensures ∙ ap output (c.end_short.ensures initial k h.whole (c.from-v.ensures ∙ h.value))
+returns c k h w = c.output.ensures ∙ ap output (c.end_short.ensures.ended (search rules) (omega (arith, w)) initial k h.whole (c.from-v.ensures ∙ h.value))

@@ -1,6 +1,6 @@
 -- What is left in the state behind the padding is the hash value.
 -- Assumes nothing.
-use Rattle.std.proofs.Common.{ap, ◌∙◌, arith}
+use Rattle.std.proofs.Common.{ap, ◌∙◌, arith, rules}
 use Rattle.sha256.specs.Constants.{initial}
 use Rattle.sha256.specs.Compress.{output}
 use Rattle.sha256.specs.Sha256.{sha256}
@@ -11,4 +11,4 @@ returns-then-self-gt-MOST c m h = absurd (omega (arith, h.holds.counted, h.bound
 
 pub returns : goal.returns
 unfolding sha256
-returns c m h = c.output.ensures ∙ ap output (c.end.ensures initial m (record { worked = c.from-v.ensures ∙ h.holds.worked; waits = h.holds.waits; counted = h.holds.counted }))
+returns c m h = c.output.ensures ∙ ap output (c.end.ensures.ended (search rules) (omega arith) initial m (record { worked = c.from-v.ensures ∙ h.holds.worked; waits = h.holds.waits; counted = h.holds.counted }))

@@ -1,6 +1,6 @@
 -- What is taken goes behind what waits, and is counted.
 -- Assumes nothing.
-use Rattle.std.proofs.Common.{◌∙◌, arith, length-append}
+use Rattle.std.proofs.Common.{◌∙◌, arith, length-append, rules}
 use Rattle.std.proofs.Math.Nat.{mod-eq_of_lt}
 use Rattle.sha256.specs.Constants.{initial}
 use Rattle.sha256.proofs.Counting.{counts_completed}
@@ -8,7 +8,7 @@ use Rattle.sha256.proofs.running.Hash.take.Goals as goal
 
 pub returns : goal.returns
 returns c =
-    let t = c.take.ensures initial in
+    let t = c.take.ensures.taken (search rules) initial in
     record {
       runs =
           λ m h w.

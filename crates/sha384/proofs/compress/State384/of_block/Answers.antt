@@ -9,5 +9,5 @@ returns c =
     let n : length c.args.b ≡ 128 = search rules in
     record {
       whole = n;
-      value = c.from.ensures ∙ c.compress.ensures ∙ ap₂ step c.initial-v.ensures (take_all 128 c.args.b (omega arith));
+      value = c.from.ensures ∙ c.compress.ensures.block (omega (arith, n)) ∙ ap₂ step c.initial-v.ensures (take_all 128 c.args.b (omega arith));
     }

@@ -5,7 +5,7 @@ use Rattle.seqs.specs.Sha2.{step, plus, schedule, rounds}
 use Rattle.seqs.specs.Ring.{Ring}
 use Rattle.seqs.proofs.Rolling.{begins, summed}
 use Rattle.fips180.specs.Layout.{value_of}
-use Rattle.fips180.proofs.words.Words.compress.Goals as goal
+use Rattle.fips180.proofs.words.Words.work.Goals as goal
 
 pub returns : goal.returns
 unfolding step
