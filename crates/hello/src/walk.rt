@@ -1,10 +1,11 @@
 // The extensions of a hello, which end where the message ends. Each is a type and a length of two bytes each, and so many bytes.
-ghost use Rattle.std.specs.Prelude.{◌≡◌, ◌<◌, ◌≤◌, ◌^◌, length, IfOk};
+ghost use Rattle.std.specs.Prelude.{◌≡◌, ◌+◌, ◌<◌, ◌≤◌, ◌^◌, length, IfOk};
+ghost use Rattle.message.specs.Numbers.{pair_at};
 ghost use Rattle.hello.specs.Extensions.{shaped};
 ghost use Rattle.hello.specs.Entries.{entry_at};
 
 use crate::parts::Part;
-use message::{byte, pair};
+use message::byte;
 use refusal::Reason;
 
 // Kept: a type is any number of 16 bits, and those that are not known here are handed out too.
@@ -33,6 +34,15 @@ pub(crate) struct Entry {
     pub data: Part,
 }
 
+// Two bytes that stand in a message, as a number. `pair`, which any place may be asked, tests each byte again: over a long list that is
+// most of a step.
+fn two(message: &[u8], at: usize) -> usize
+    requires { at + 1 < length message.now }
+    ensures { (result ≡ pair_at message.now at) × (result < 65536) }
+{
+    256 * message[at] as usize + message[at + 1] as usize
+}
+
 // The extension at a place, or where it is cut off: its type and length by the end, its data by what the length claims.
 pub(crate) fn read_entry(message: &[u8], at: usize) -> Result<Entry, Reason>
     ensures value { result ≡ entry_at message.now at }
@@ -42,13 +52,13 @@ pub(crate) fn read_entry(message: &[u8], at: usize) -> Result<Entry, Reason>
     if left < 4 {
         return Err(Reason::Malformed(message.len()));
     }
-    let length = pair(message, at + 2);
+    let length = two(message, at + 2);
     if left - 4 < length {
         return Err(Reason::Malformed(at + 2));
     }
     Ok(Entry {
         at,
-        kind: pair(message, at),
+        kind: two(message, at),
         data: Part { at: at + 4, length },
     })
 }

@@ -8,7 +8,7 @@ pub returns-then-left-lt4-clause-value : goal.returns-then-left-lt4-clause-value
 returns-then-left-lt4-clause-value c = sym (entry_cut _ _ (omega arith))
 
 pub returns-then-left-length-clause-value : goal.returns-then-left-length-clause-value
-returns-then-left-length-clause-value c = sym (entry_long _ _ c.pair-length.result c.pair-length.ensures.0 (omega arith) (omega arith))
+returns-then-left-length-clause-value c = sym (entry_long _ _ c.two-length.result c.two-length.ensures.0 (omega arith) (omega arith))
 
 pub returns-clause-value : goal.returns-clause-value
-returns-clause-value c = rw c.pair.ensures.0 (sym (entry_whole _ _ c.pair-length.result c.pair-length.ensures.0 (omega arith) (omega arith)))
+returns-clause-value c = rw c.two.ensures.0 (sym (entry_whole _ _ c.two-length.result c.two-length.ensures.0 (omega arith) (omega arith)))
