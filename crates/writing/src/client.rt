@@ -6,7 +6,7 @@ use crate::judging::{Written, judge};
 use crate::lists::List;
 use crate::opening::Opening;
 use crate::places::{put_block, put_opening, put_vector};
-use crate::sizes::client_size;
+use crate::sizes::{client_size, offers};
 use refusal::Reason;
 
 const CLIENT_HELLO: u8 = 1;
@@ -34,6 +34,10 @@ pub fn write_client_hello(
         random,
         identifier,
     };
+    // What costs no walk is asked before the list is walked, and again where the size is counted.
+    if !opening.is_bounded() || !offers(suites.len(), methods.len()) {
+        return Written::from(Err(Reason::Length));
+    }
     let Some(list) = List::new(block, types, lengths, data) else {
         return Written::from(Err(Reason::Length));
     };

@@ -74,16 +74,21 @@ impl<'a> List<'a> {
     }
 
     // A type stands twice. Each type is compared with all behind it, up to the first repeat.
+    // Kept: a nested walk that is left by its label is the form that document 01 names.
     pub(crate) fn repeats(&self) -> bool
         ensures { result ≡ repeats self.now.types.now }
     {
+        let mut found = false;
         let mut types = self.types;
-        while let Some((kind, rest)) = types.split_first() {
-            if rest.contains(kind) {
-                return true;
+        'all: while let Some((kind, rest)) = types.split_first() {
+            for other in rest {
+                if *other == *kind {
+                    found = true;
+                    break 'all;
+                }
             }
             types = rest;
         }
-        false
+        found
     }
 }

@@ -34,6 +34,10 @@ pub fn write_server_hello(
         random,
         identifier,
     };
+    // What costs no walk is asked before the list is walked, and again where the size is counted.
+    if !opening.is_bounded() {
+        return Written::from(Err(Reason::Length));
+    }
     let Some(list) = List::new(block, types, lengths, data) else {
         return Written::from(Err(Reason::Length));
     };

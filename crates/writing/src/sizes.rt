@@ -36,7 +36,7 @@ pub(crate) fn server_size(opening: &Opening, list: &List) -> Result<usize, Reaso
 }
 
 // Suites and methods are within their bounds.
-fn offers(suites: usize, methods: usize) -> bool
+pub(crate) fn offers(suites: usize, methods: usize) -> bool
     ensures { not result ≡ lists_outside suites methods }
 {
     if suites < 2 || 65534 < suites || suites % 2 != 0 {
