@@ -4,6 +4,9 @@ ghost use Rattle.cases.specs.Digits.{decimal};
 
 use crate::buffer::Buffer;
 
+// The digits of a number.
+pub type Decimal = Buffer<5>;
+
 // The last digit.
 fn digit(n: u16) -> u8
     ensures { result ≡ 48 + n % 10 }
@@ -12,7 +15,7 @@ fn digit(n: u16) -> u8
 }
 
 // A number in decimal: its five digits, without the zeros that lead.
-pub fn decimal_of(n: u16) -> Buffer<5>
+pub fn decimal_of(n: u16) -> Decimal
     ensures { result ≡ decimal n }
 {
     let digits = [

@@ -7,4 +7,4 @@ mod digits;
 
 pub use buffer::Buffer;
 pub use contents::is_good;
-pub use digits::decimal_of;
+pub use digits::{Decimal, decimal_of};

@@ -3,7 +3,7 @@
 // A case: the length of the message (2 bytes, big-endian), how often it is repeated (2 bytes), the message.
 #![tactic(auto)]
 
-ghost use Rattle.std.specs.Prelude.{◌<◌, length, IfSome};
+ghost use Rattle.std.specs.Prelude.{◌<◌, ◌≤◌, length, IfSome};
 
 use sha256::Hash;
 use sha384::Hash384;
@@ -51,9 +51,23 @@ fn first(cases: &[u8]) -> Option<Case>
     })
 }
 
-fn print<R: Print>(rt: &R, digest: &[u8]) {
-    for byte in digest {
-        let _ = print!(rt; "{byte:02x}");
+// A line of hex, by one write.
+fn print<R: Print>(rt: &R, digest: &[u8])
+    requires { length digest.now ≤ 48 }
+{
+    let mut line = [b'\n'; 97];
+    for (i, byte) in digest.iter().enumerate() {
+        line[2 * i] = digit(byte / 16);
+        line[2 * i + 1] = digit(byte % 16);
     }
-    let _ = println!(rt);
+    let _ = rt.write_all(&line[..2 * digest.len() + 1]);
+}
+
+fn digit(n: u8) -> u8
+    requires { n < 16 }
+{
+    match n {
+        0..=9 => b'0' + n,
+        _ => b'a' + (n - 10),
+    }
 }

@@ -1,6 +1,6 @@
 -- The messages one after the other.
 -- Assumes nothing.
-use Rattle.std.proofs.Common.{◌≡◌, ◌+◌, ◌*◌, ◌-◌, ◌<◌, ℕ, arith, length-append}
+use Rattle.std.proofs.Common.{◌≡◌, ◌≤◌, length, ◌+◌, ◌*◌, ◌-◌, ◌<◌, ℕ, arith, length-append}
 use Rattle.message.specs.Numbers.{pair_at}
 use Rattle.cases.specs.Contents.{contents_size, count_of}
 use Rattle.cases.specs.Digits.{ascii}
@@ -36,10 +36,11 @@ loop-i-preserved c =
     let p : c.pair.result ≡ pair_at s (1 + 2 * i) = c.pair.ensures.0 in
     let e : at + c.pair.result - at ≡ pair_at s (1 + 2 * i) = omega arith in
     let m = left_more s i h in
+    let fit : length c.loop-i.text + length c.as_slice.result.now ≤ 4103 = rw c.as_slice.ensures.value (omega (arith, c.feed-line.ensures.short, c.loop-i.invariant.room)) in
     record {
-      room = rw (c.push.ensures, c.as_slice.ensures.value) (omega (arith, length-append {A = ℕ}, c.feed-line.ensures.short));
+      room = rw (c.push.ensures.fits fit, c.as_slice.ensures.value) (omega (arith, length-append {A = ℕ}, c.feed-line.ensures.short));
       fills = omega arith;
-      going = rw (c.push.ensures, c.as_slice.ensures.value, p) (going_more s i at _ _ _ _ c.loop-i.invariant.going h (rw e at c.feed-line.ensures));
+      going = rw (c.push.ensures.fits fit, c.as_slice.ensures.value, p) (going_more s i at _ _ _ _ c.loop-i.invariant.going h (rw e at c.feed-line.ensures));
     }
 
 pub returns-clause-text : goal.returns-clause-text

@@ -1,6 +1,6 @@
 -- A good case has its lines, a bad one is refused.
 -- Assumes nothing.
-use Rattle.std.proofs.Common.{◌≡◌, true, false, arith, sym, ◌∙◌}
+use Rattle.std.proofs.Common.{◌≡◌, ◌≤◌, ◌+◌, length, true, false, arith, sym, ◌∙◌}
 use Rattle.cases.specs.Contents.{good_case}
 use Rattle.cases.specs.Digits.{ascii}
 use Rattle.listing.specs.Texts.{header, refused}
@@ -13,16 +13,15 @@ returns-then-is_good-clause-text c =
     let e : good_case c.args.case.now ≡ true = sym c.is_good.ensures ∙ c.if-is_good.true in
     rw e c.lines.ensures.text
 
-pub push-requires : goal.push-requires
-unfolding header ascii
-push-requires c = rw c.headed-text.ensures (omega arith)
-
 pub returns-clause-text : goal.returns-clause-text
 unfolding listing header refused ascii
 returns-clause-text c =
     let e : good_case c.args.case.now ≡ false = sym c.is_good.ensures ∙ c.if-is_good.false in
-    rw (e, c.push.ensures, c.headed-text.ensures)
+    let fit : length c.headed-text.result + 17 ≤ 4103 = rw c.headed-text.ensures (omega arith) in
+    rw (e, c.push.ensures.fits fit, c.headed-text.ensures)
 
 pub returns-clause-within : goal.returns-clause-within
 unfolding header ascii
-returns-clause-within c = rw (c.push.ensures, c.headed-text.ensures) (omega arith)
+returns-clause-within c =
+    let fit : length c.headed-text.result + 17 ≤ 4103 = rw c.headed-text.ensures (omega arith) in
+    rw (c.push.ensures.fits fit, c.headed-text.ensures) (omega arith)

@@ -1,6 +1,6 @@
 -- The columns from the left.
 -- Assumes nothing.
-use Rattle.std.proofs.Common.{append_assoc, arith, length-append, ℕ}
+use Rattle.std.proofs.Common.{◌≤◌, ◌+◌, length, append_assoc, arith, length-append, ℕ}
 use Rattle.cases.specs.Digits.{ascii}
 use Rattle.cases.proofs.Decimals.{three_most}
 use Rattle.listing.specs.Texts.{printed}
@@ -18,14 +18,13 @@ put_column-requires-2 c = rw (c.put_column.ensures, c.put_number.ensures, c.empt
 pub put_column-requires-3 : goal.put_column-requires-3
 put_column-requires-3 c = rw (c.put_column-2.ensures, c.put_column.ensures, c.put_number.ensures, c.empty-line.ensures) (omega (arith, length-append {A = ℕ}, three_most c.args.number (omega arith)))
 
-pub push-requires : goal.push-requires
-push-requires c = rw (c.put_column-3.ensures, c.put_column-2.ensures, c.put_column.ensures, c.put_number.ensures, c.empty-line.ensures) (omega (arith, length-append {A = ℕ}, three_most c.args.number (omega arith)))
-
 pub returns-clause-value : goal.returns-clause-value
 unfolding printed ascii
 returns-clause-value c =
-    rw (c.push.ensures, c.put_column-3.ensures, c.put_column-2.ensures, c.put_column.ensures, c.put_number.ensures, c.empty-line.ensures) (simp append_assoc)
+    let fit : length c.put_column-3.new.line + 1 ≤ 16 = rw (c.put_column-3.ensures, c.put_column-2.ensures, c.put_column.ensures, c.put_number.ensures, c.empty-line.ensures) (omega (arith, length-append {A = ℕ}, three_most c.args.number (omega arith))) in
+    rw (c.push.ensures.fits fit, c.put_column-3.ensures, c.put_column-2.ensures, c.put_column.ensures, c.put_number.ensures, c.empty-line.ensures) (simp append_assoc)
 
 pub returns-clause-short : goal.returns-clause-short
 returns-clause-short c =
-    rw (c.push.ensures, c.put_column-3.ensures, c.put_column-2.ensures, c.put_column.ensures, c.put_number.ensures, c.empty-line.ensures) (omega (arith, length-append {A = ℕ}, three_most c.args.number (omega arith)))
+    let fit : length c.put_column-3.new.line + 1 ≤ 16 = rw (c.put_column-3.ensures, c.put_column-2.ensures, c.put_column.ensures, c.put_number.ensures, c.empty-line.ensures) (omega (arith, length-append {A = ℕ}, three_most c.args.number (omega arith))) in
+    rw (c.push.ensures.fits fit, c.put_column-3.ensures, c.put_column-2.ensures, c.put_column.ensures, c.put_number.ensures, c.empty-line.ensures) (omega (arith, length-append {A = ℕ}, three_most c.args.number (omega arith)))
