@@ -88,10 +88,11 @@ impl<W: Word> Words<W> {
     }
 
     // Sixteen rounds bring each of the eight words back to its place: the compiler keeps them in registers and moves none.
-    fn sixteen_rounds(self, w: [W; 16], t: usize) -> Words<W>
-        requires { (t ≤ W.kind.more) × (t ≤ 64) }
-        ensures { (s : Value) (block : List ℕ) → Ring W.kind (map W.number w) block t → value_of W.number self ≡ rounds W.kind t s (schedule W.kind W.kind.more block) → value_of W.number result ≡ rounds W.kind (t + 16) s (schedule W.kind W.kind.more block) }
+    fn sixteen_rounds(self, w: [W; 16], turn: usize) -> Words<W>
+        requires { (16 * turn ≤ W.kind.more) × (turn ≤ 4) }
+        ensures { (s : Value) (block : List ℕ) → Ring W.kind (map W.number w) block (16 * turn) → value_of W.number self ≡ rounds W.kind (16 * turn) s (schedule W.kind W.kind.more block) → value_of W.number result ≡ rounds W.kind (16 * turn + 16) s (schedule W.kind W.kind.more block) }
     {
+        let t = 16 * turn;
         let r = self.round(W::constant(t), w[0]);
         let r = r.round(W::constant(t + 1), w[1]);
         let r = r.round(W::constant(t + 2), w[2]);
@@ -118,7 +119,7 @@ impl<W: Word> Words<W> {
         let mut v = self;
         let turns = W::turns();
         for turn in 0..turns {
-            v = v.sixteen_rounds(w, 16 * turn);
+            v = v.sixteen_rounds(w, turn);
             if turn + 1 < turns {
                 w = rolled(w);
             }

@@ -153,16 +153,20 @@ module _ (F : Sha2) where
   unfolding rounds
   next_round s ws n = refl
 
-  -- round t + i of a turn finds its word of the schedule at place i of the ring that stands at t
-  pub round_more : (s : Value) (t i : ℕ) {w b : List ℕ} {v v' : Value} {k x : ℕ} → i < 16 → Ring F w b t
-      → k ≡ get_or F.ks (t + i) 0 → x ≡ get_or w i 0
-      → v ≡ rounds F (t + i) s (schedule F F.more b) → v' ≡ round_of F v k x
-      → v' ≡ rounds F (t + (i + 1)) s (schedule F F.more b)
-  round_more s t i {w} {b} h r e f p q =
-      let u : suc (t + i) ≡ t + (i + 1) = omega arith in
+  -- round i of a turn finds its word of the schedule at place i of the ring that stands where the turn begins
+  pub round_more : (s : Value) (turn i : ℕ) {w b : List ℕ} {v v' : Value} {k x : ℕ} → 16 * turn ≤ F.more → i < 16 → Ring F w b (16 * turn)
+      → k ≡ get_or F.ks (16 * turn + i) 0 → x ≡ get_or w i 0
+      → v ≡ rounds F (16 * turn + i) s (schedule F F.more b) → v' ≡ round_of F v k x
+      → v' ≡ rounds F (16 * turn + (i + 1)) s (schedule F F.more b)
+  round_more s turn i {w} {b} g h r e f p q =
+      let m : (16 * turn + i) / 16 ≡ turn = omega arith in
+      let o : (16 * turn + i) % 16 ≡ i = omega arith in
+      let u : suc (16 * turn + i) ≡ 16 * turn + (i + 1) = omega arith in
+      let l : get_or w i 0 ≡ word_of F b (16 * turn + i) =
+      ap (λ (x : ℕ). get_or w x 0) (sym o) ∙ finds w b (16 * turn + i) (omega arith) (subst (λ (x : ℕ). Ring F w b (16 * x)) (sym m) r) in
       q
-      ∙ same_round p e (f ∙ found r i h)
-      ∙ next_round s (schedule F F.more b) (t + i)
+      ∙ same_round p e (f ∙ l)
+      ∙ next_round s (schedule F F.more b) (16 * turn + i)
       ∙ ap (λ (x : ℕ). rounds F x s (schedule F F.more b)) u
 
   pub rounds_none : (s : Value) (ws : List ℕ) → s ≡ rounds F 0 s ws
