@@ -1,11 +1,7 @@
 -- Turn by turn: before each the ring is W(16 * turn) to W(16 * turn + 15).
 -- Assumes nothing.
-use Rattle.std.proofs.Common.{arith}
 use Rattle.seqs.proofs.Rolling.{rounds_none}
 use Rattle.fips180.proofs.words.Words.all_rounds.Goals as goal
 
 pub loop-turn-init : goal.loop-turn-init
 loop-turn-init g c b r = (λ h. r, rounds_none g.W.Word.kind _ _)
-
-pub overflow_mul-turn : goal.overflow_mul-turn
-overflow_mul-turn g c = omega arith
