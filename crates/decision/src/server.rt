@@ -1,7 +1,7 @@
 // The server's decision.
 ghost use Rattle.std.specs.Prelude.{◌≡◌};
 ghost use Rattle.hello.specs.Fields.{read_client};
-ghost use Rattle.decision.specs.Server.{on_offer, ServerDecides};
+ghost use Rattle.decision.specs.Server.{ServerDecides};
 ghost use Rattle.decision.specs.Steps.{ClientWas, Plain, asked_in, original_in, SessionIs, decision_in};
 
 use crate::connection::{Connection, Decision, Switches};

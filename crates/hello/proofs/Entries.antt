@@ -24,7 +24,7 @@ use Rattle.hello.specs.declared.parts.Part.{Part}
 use Rattle.hello.specs.declared.walk.Entry.{Entry}
 use Rattle.hello.proofs.Lists.{parsed_short, parsed_long, parsed_bad, broken_later, whole_next, step, list_end, size_of_lem}
 use Rattle.hello.proofs.Closings.{list_size}
-use Rattle.hello.proofs.Repeats.{clash, clash_more, clash_none, has_append, or_assoc}
+use Rattle.hello.proofs.Repeats.{repeat_here, repeat_later as later_repeat, clash, clash_more, clash_none, has_append, or_assoc}
 
 module _ (m : List ℕ) (at : ℕ) where
   pub entry_cut : length m - at < 4 → entry_at m at ≡ Err (reason.Malformed (length m))
@@ -254,17 +254,17 @@ reason_of (Some e) = Err (reason.Repeated e.at)
 -- the same by the extensions' definition, behind some that have the types of `before`
 repeat_behind : (before : List Extension) (b : List Entry) → ((t : ℕ) → list_any (same_kind t) b ≡ has t before) → (at : ℕ) (es : List Extension)
     → reason_of (first_repeat b (entries_from at es)) ≡ pick (clash before es || twice es) (Err (reason.Repeated (repeat_from before at es))) (Ok tt)
-unfolding first_repeat entries_from clash twice repeat_from has
+unfolding first_repeat entries_from clash twice has
 repeat_behind before b k at [] = refl
 repeat_behind before b k at (e ∷ es) =
     by_test (has e.kind before)
-    (λ p. let q : list_any (same_kind e.kind) b ≡ true = k e.kind ∙ p in rw (p, q))
+    (λ p. let q : list_any (same_kind e.kind) b ≡ true = k e.kind ∙ p in rw (repeat_here before at e es p, p, q))
     (λ p.
     let q : list_any (same_kind e.kind) b ≡ false = k e.kind ∙ p in
     let x = entry_of at e.kind (length e.content) in
     let more : (t : ℕ) → list_any (same_kind t) (b ++ x ∷ []) ≡ has t (before ++ e ∷ []) = λ t. list_any-append (same_kind t) b (x ∷ []) ∙ (rw (k t)) ∙ sym (has_append t before (e ∷ [])) in
     let i = repeat_behind (before ++ e ∷ []) (b ++ x ∷ []) more (at + 4 + length e.content) es in
-    rw (p, q, i, clash_more before e es, or_assoc (clash before es) (has e.kind es) (twice es)))
+    rw (later_repeat before at e es _ refl p, p, q, i, clash_more before e es, or_assoc (clash before es) (has e.kind es) (twice es)))
 
 pub repeat_found : (at : ℕ) (es : List Extension) → reason_of (first_repeat [] (entries_from at es)) ≡ differ_from at es
 unfolding differ_from has

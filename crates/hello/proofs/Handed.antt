@@ -9,14 +9,18 @@ use lib.Dec.{leb}
 use lib.ListN.{length, drop, length-drop}
 use lib.Seq.{take_all}
 use borrow.Author.Tests.{le-leb, lt-leb, leb-true, leb-false}
+use Rattle.std.specs.Prelude.{Ok}
 use Rattle.seqs.specs.Cases.{by_test}
 use Rattle.message.specs.Numbers.{pair_at}
 use Rattle.hello.specs.Layout.{parsed, from}
 use Rattle.hello.specs.Extensions.{Extension, extensions_of}
 use Rattle.hello.specs.Cuts.{parsed_at, well_formed_at, list_at}
+use Rattle.hello.specs.Entries.{entry_at}
 use Rattle.hello.specs.Next.{no_next, next_of, next_at, HandsOut, ListHandedOut, HandedOnce}
 use Rattle.hello.specs.declared.next.Next.{Next}
+use Rattle.hello.specs.declared.walk.Entry.{Entry}
 use Rattle.hello.proofs.Lists.{fuel, step, list_end}
+use Rattle.hello.proofs.Entries.{entry_read}
 
 module _ (m : List ℕ) (at : ℕ) where
   pub next_none : length m < at + 4 + pair_at m (at + 2) → next_at m at ≡ no_next
@@ -26,6 +30,11 @@ module _ (m : List ℕ) (at : ℕ) where
   pub next_some : (n : ℕ) → n ≡ pair_at m (at + 2) → at + 4 + n ≤ length m → next_at m at ≡ next_of m at n
   unfolding next_at
   next_some n e h = rw (← e, le-leb (at + 4 + n) (length m) h)
+
+  -- the extension that was read there, and the place of what follows it
+  pub next_read : (e : Entry) → entry_at m at ≡ Ok e → (k : ℕ) → k ≡ (next_of m at (pair_at m (at + 2))).next
+      → record { found = 1; kind = e.kind; «data» = e.«data»; next = k } ≡ next_at m at
+  next_read e h k f = let w = entry_read m at e h in rw (← w.is, f) (sym (next_some _ refl w.within))
 
 -- a list that is well formed, from a place on; k bounds what is left of the message
 handed_from : (m : List ℕ) (k i : ℕ) → i ≤ length m → length m - i ≤ k → well_formed_at m i ≡ true → HandsOut m i (list_at m i)

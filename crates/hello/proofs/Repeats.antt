@@ -1,4 +1,5 @@
--- A type that stands twice, among those behind some others; and that there is a repeat exactly where one does.
+-- The repeat that is found first; a type that stands twice, among those behind some others; and that there is a repeat exactly where one
+-- does.
 -- Assumes nothing.
 use mathlib.Core.Path.{◌≡◌, refl, sym, ◌∙◌, ap}
 use mathlib.Core.Bool.{Bool, true, false, not, ◌||◌}
@@ -10,6 +11,17 @@ use lib.ListN.{length}
 use borrow.Author.Tests.{eq-eqb, ne_eqb, eqb-true, eqb-false}
 use Rattle.seqs.specs.Cases.{by_test}
 use Rattle.hello.specs.Extensions.{Extension, has, twice, repeat_from, repeat_at}
+
+-- behind some others, a type that stands among them is the repeat, and else it is one of them
+module _ (before : List Extension) (at : ℕ) (e : Extension) (es : List Extension) where
+  pub repeat_here : has e.kind before ≡ true → repeat_from before at (e ∷ es) ≡ at
+  unfolding repeat_from
+  repeat_here h = rw h
+
+  pub repeat_later : (n : ℕ) → length e.content ≡ n → has e.kind before ≡ false
+      → repeat_from before at (e ∷ es) ≡ repeat_from (before ++ (e ∷ [])) (at + 4 + n) es
+  unfolding repeat_from
+  repeat_later n s h = rw (h, s)
 
 -- one of es has a type that stands before
 unfoldable pub clash : List Extension → List Extension → Bool
@@ -55,9 +67,9 @@ unfolding repeat_from clash twice
 repeat_found before at [] h = refl
 repeat_found before at (e ∷ es) h =
     by_test (has e.kind before)
-    (λ p. rw (p, ne_eqb at 0 (λ z. omega arith)))
+    (λ p. rw (repeat_here before at e es p, p, ne_eqb at 0 (λ z. omega arith)))
     (λ p.
-    rw p
+    rw (repeat_later before at e es _ refl p, p)
     (repeat_found (before ++ (e ∷ [])) (at + 4 + length e.content) es (omega arith)
     ∙ (rw (clash_more before e es) (or_assoc (clash before es) (has e.kind es) (twice es)))))
 

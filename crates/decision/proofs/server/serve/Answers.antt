@@ -21,7 +21,7 @@ pub returns-in_default : goal.returns-in_default
 returns-in_default c =
     let a = c.args in
     let e = ap refused (sym c.unwrap_err.ensures) ∙ c.read_client_hello-read.ensures in
-    server_faulted a.table.now a.axle _ a.connection.now a.switches.now a.out.now (sym (axle_good a.axle c.if-axle-lt1.false c.if-axle-gt6.false)) (client_fault a.message.now _ e)
+    server_faulted a.table.now a.axle _ a.connection.now a.switches.now a.out.now (sym (axle_good a.axle c.if-axle-lt1.false (omega arith))) (client_fault a.message.now _ e)
 
 pub indication_of-requires : goal.indication_of-requires
 indication_of-requires c = (client_learnt c.args.message.now c.in-Ok.hello (c.in-Ok.ensures)).extensions.bounded
@@ -31,5 +31,5 @@ returns c =
     let a = c.args in
     let h = c.in-Ok.hello in
     let w = (c.in-Ok.ensures) in
-    server_judged a.table.now a.axle _ a.connection.now a.switches.now a.out.now c.session_of-session.result (sym (axle_good a.axle c.if-axle-lt1.false c.if-axle-gt6.false)) (client_learnt a.message.now h w).reading c.session_of-session.ensures
+    server_judged a.table.now a.axle _ a.connection.now a.switches.now a.out.now c.session_of-session.result (sym (axle_good a.axle c.if-axle-lt1.false (omega arith))) (client_learnt a.message.now h w).reading c.session_of-session.ensures
     (plain_same (asked_is a.message.now h _ w c.indication_of.ensures) c.judge.ensures)
