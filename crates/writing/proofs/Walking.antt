@@ -87,19 +87,11 @@ unfolding misshapen
 shapes_any [] = refl
 shapes_any (e ∷ es) = ap (λ (b : Bool). not (shaped e.kind e.content) || b) (shapes_any es)
 
--- a type among others, from place i of them on
-module _ (t : ℕ) (ts : List ℕ) (i : ℕ) where
-  pub among_here : i < length ts → get_or ts i 0 ≡ t → among t (drop i ts) ≡ true
-  unfolding among
-  among_here h e = rw (drop-cons ts i 0, eq-eqb (get_or ts i 0) t e)
-
-  pub among_later : i < length ts → (get_or ts i 0 ≡ t → ⊥) → among t (drop i ts) ≡ among t (drop (i + 1) ts)
-  unfolding among
-  among_later h e = rw (drop-cons ts i 0, add-one, ne_eqb (get_or ts i 0) t e)
-
-  pub among_end : length ts ≤ i → among t (drop i ts) ≡ false
-  unfolding among
-  among_end h = rw (drop_of_length-le ts)
+-- a type among others
+pub among_any : (t : ℕ) (ts : List ℕ) → list_any (λ u. eqb u t) ts ≡ among t ts
+unfolding among
+among_any t [] = refl
+among_any t (u ∷ us) = ap (λ (b : Bool). eqb u t || b) (among_any t us)
 
 module _ (ts ts' : List ℕ) (t : ℕ) (e : ts ≡ t ∷ ts') where
   pub repeats_here : among t ts' ≡ true → repeats ts ≡ true

