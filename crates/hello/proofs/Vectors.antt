@@ -105,8 +105,9 @@ module _ (w low high : ℕ) (m : List ℕ) (at : ℕ) where
   cuts_short h k = (length m, λ then. vector_short then w low high m at h k, refl)
 
   module _ (n : ℕ) (e : n ≡ big (take w (drop at m))) (h : at + w ≤ length m) where
-    pub cuts_no : ((low ≤ n) × (n ≤ high) × (at + w + n ≤ length m) → ⊥) → BrokenField (vector w low high (from m at)) (reason.Malformed at)
-    cuts_no never = (at, λ then. vector_no then w low high m at n e h never, refl)
+    -- the fault stands at its own place
+    pub cuts_no : (own : ℕ) → own ≡ at → ((low ≤ n) × (n ≤ high) × (at + w + n ≤ length m) → ⊥) → BrokenField (vector w low high (from m at)) (reason.Malformed own)
+    cuts_no own o never = (at, λ then. vector_no then w low high m at n e h never, ap reason.Malformed o)
 
     pub cuts_yes : low ≤ n → n ≤ high → at + w + n ≤ length m → Cuts m (at + w) (vector w low high (from m at)) (Ok (part (at + w) n))
     cuts_yes lo hi r = (refl, r, λ then. vector_yes then w low high m at n e h lo hi r)
