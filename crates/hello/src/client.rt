@@ -41,7 +41,10 @@ pub fn read_client_hello(message: &[u8]) -> Result<ClientHello, Reason>
     ensures { refused result ≡ client_answer (read_client message.now) }
 {
     frame_as(message, CLIENT_HELLO)?;
-    let hello = lay_client(message, BODY)?;
+    let laid = lay_client(message, BODY);
+    let Ok(hello) = laid else {
+        return Err(laid.unwrap_err());
+    };
     let at = hello.extensions.list.at;
     List { message, at }.differ()?;
     if hello.version < LOWEST {

@@ -36,7 +36,10 @@ pub fn read_server_hello(message: &[u8]) -> Result<ServerHello, Reason>
     ensures { refused result ≡ server_answer (read_server message.now) }
 {
     frame_as(message, SERVER_HELLO)?;
-    let hello = lay_server(message, BODY)?;
+    let laid = lay_server(message, BODY);
+    let Ok(hello) = laid else {
+        return Err(laid.unwrap_err());
+    };
     let at = hello.extensions.list.at;
     List { message, at }.differ()?;
     if hello.version != VERSION {

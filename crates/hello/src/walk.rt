@@ -47,7 +47,8 @@ fn two(message: &[u8], at: usize) -> usize
 // The extension at a place, or where it is cut off: its type and length by the end, its data by what the length claims.
 pub(crate) fn read_entry(message: &[u8], at: usize) -> Result<Entry, Reason>
     ensures value { result ≡ entry_at message.now at }
-    ensures fits { IfOk result (λ e. (e.kind < 65536) × (behind e.«data» ≤ length message.now)) }
+    ensures fits { IfOk result (λ e. e.kind < 65536) }
+    ensures within { IfOk result (λ e. behind e.«data» ≤ length message.now) }
 {
     let left = message.len().saturating_sub(at);
     if left < 4 {
