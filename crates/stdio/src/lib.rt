@@ -2,8 +2,9 @@
 // told apart, so that half a case is never taken for a whole one; why a read or a write failed is said on standard error.
 #![tactic(auto)]
 
-ghost use Rattle.std.specs.Prelude.{◌≡◌, IfSome, MatchResult};
+ghost use Rattle.std.specs.Prelude.{◌≡◌, ◌<◌, length, IfOk, IfSome, MatchResult};
 ghost use Rattle.std.specs.Result.{result_ok};
+ghost use Rattle.std.specs.Io.KnownBytes.{IsAtEnd};
 ghost use Rattle.io.specs.Counts.{IsPrefixLen};
 
 use std::fs::File;
@@ -18,9 +19,10 @@ pub struct Failed {
 }
 
 // Reads until the buffer is full, the input ends or a read fails, and answers how many bytes came; a read that a signal
-// interrupts has failed. Which bytes come from the system no contract can say.
+// interrupts has failed. Which bytes come from the system no contract can say, but that with room left the input has ended.
 pub fn read_from<R: Read>(reader: &mut R, buffer: &mut [u8]) -> Result<usize, Failed>
     ensures prefix_len { MatchResult result (λ n. IsPrefixLen n buffer.new) (λ f. IsPrefixLen f.length buffer.new) }
+    ensures end { IfOk result (λ n. n < length buffer.new → IsAtEnd (R.remaining reader.new)) }
 {
     let mut length: usize = 0;
     // Kept: no plainer form; each read says how far the next one begins, and std's `read_exact` loses how many bytes came.
@@ -54,9 +56,10 @@ fn whole(read: Result<usize, Failed>) -> Option<usize>
 }
 
 // Reads the file that the program's argument of that number names, until the buffer is full or the file ends, and answers how
-// many bytes it has there; none where it cannot be opened or a read fails.
+// many bytes it has there; none where it cannot be opened or a read fails. With room left a file was read to its end.
 pub fn read_argument<R: Env + Files>(rt: &R, number: usize, buffer: &mut [u8]) -> Option<usize>
     ensures prefix_len { IfSome result (λ n. IsPrefixLen n buffer.new) }
+    ensures end { IfSome result (λ n. n < length buffer.new → (file : R.File) × IsAtEnd (R.File.remaining file)) }
 {
     let mut file = open_argument(rt, number)?;
     whole(read_from(&mut file, buffer))
