@@ -10,6 +10,7 @@ use lib.Dec.{eqb}
 use lib.ListN.{length}
 use borrow.Author.Tests.{eq-eqb, ne_eqb, eqb-true}
 use Rattle.seqs.specs.Cases.{by_test}
+use Rattle.seqs.proofs.Flag.{yes_bit}
 use Rattle.refusal.specs.First.{first_of}
 use Rattle.refusal.specs.Table.{refusal_at}
 use Rattle.refusal.specs.Listed.{number_at, row_number, anywhere}
@@ -36,7 +37,7 @@ use Rattle.decision.proofs.Judging.{decision_refused}
 -- the session
 known_original : (o : Option Session) → original_in (known_of o) ≡ original_of o
 known_original none = refl
-known_original (some s) = refl
+known_original (some s) = rw (yes_bit s.ems)
 
 module _ (t : Table) (axle : ℕ) (r : Reading) (f : Hello) (e : r ≡ fields f) where
   pub session_none : length f.identifier ≡ 0 → SessionIs t axle r std.None

@@ -4,6 +4,7 @@ use denote.Ref.{Bor}
 use Rattle.std.specs.Prelude as std
 use Rattle.std.specs.Prelude.{◌≡◌, Bool, true, false, not, List, [], ◌∷◌, ℕ, eqb, length, Result, Ok, Err}
 use Rattle.std.proofs.Math.Option.{Option, none, some}
+use Rattle.seqs.specs.Flag.{yes}
 use Rattle.seqs.specs.Pick.{pick}
 use Rattle.octets.specs.Put.{put_list}
 use Rattle.refusal.specs.First.{first_of}
@@ -98,7 +99,7 @@ client_plain c s i k t = decision (told_number c s i k t) 0 (client_outcome s i 
 
 -- what is weighed of a session, as the code has it
 abbrev pub weighed_in : Weighed → Original
-weighed_in w = record { ems = w.ems; suite = w.suite }
+weighed_in w = record { ems = yes w.ems; suite = w.suite }
 
 abbrev pub original_in : std.Option Weighed → Option Original
 original_in std.None = none

@@ -37,7 +37,7 @@ pub(crate) fn server_outcome(
     let Some(original) = session else {
         return full(ems, switches);
     };
-    match (original.ems, ems) {
+    match (original.ems != 0, ems) {
         (true, true) => Ok(RESUMED_EMS),
         (true, false) => Err(Reason::NoSecret),
         (false, true) => Ok(FULL_EMS),
@@ -56,7 +56,7 @@ pub(crate) fn client_outcome(
     let Some(original) = resumed else {
         return full(ems, switches);
     };
-    match (original.ems, ems) {
+    match (original.ems != 0, ems) {
         (true, true) => Ok(RESUMED_EMS),
         (false, false) => legacy_resumption(switches),
         _ => Err(Reason::NoSecret),

@@ -45,10 +45,7 @@ pub extern "C" fn axle_decide_client(
 {
     let lent = Lent {
         identifier,
-        session: Weighed {
-            ems: ems != 0,
-            suite,
-        },
+        session: Weighed { ems, suite },
     };
     let lent = (session != 0).then_some(lent);
     decision::decide_client(message, offered, lent, connection, switches)

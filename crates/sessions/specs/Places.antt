@@ -50,7 +50,7 @@ abbrev pub stored_in : Result ⊤ Reason → Table → Stored
 stored_in r t = record { refusal = refusal_in r; table = t }
 
 abbrev pub looked_in : Result (Option Weighed) Reason → Looked
-looked_in (Ok (Some w)) = record { refusal = refusal_of 0; found = 1; ems = bit w.ems; suite = w.suite }
+looked_in (Ok (Some w)) = record { refusal = refusal_of 0; found = 1; ems = w.ems; suite = w.suite }
 looked_in (Ok None) = record { refusal = refusal_of 0; found = 0; ems = 0; suite = 0 }
 looked_in (Err e) = record { refusal = refusal_for e; found = 0; ems = 0; suite = 0 }
 

@@ -104,7 +104,7 @@ pub record Clears (t : Table) (r : Cleared) : Type 0 where
 -- ---- what a decision asks of a session: whether there is one, with EMS or not, and its suite
 
 abbrev pub weighed : Session → Weighed
-weighed s = record { ems = s.ems; suite = s.suite }
+weighed s = record { ems = bit s.ems; suite = s.suite }
 
 abbrev pub known_of : Option Session → std.Option Weighed
 known_of none = std.None

@@ -131,7 +131,7 @@ impl Table {
             Ok(Some(session)) => Looked {
                 refusal: refuse(0),
                 found: 1,
-                ems: u8::from(session.ems),
+                ems: session.ems,
                 suite: session.suite,
             },
             Ok(None) => Looked::nothing(refuse(0)),

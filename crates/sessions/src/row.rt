@@ -17,10 +17,11 @@ pub struct Row {
     pub secret: [u8; 48],
 }
 
-// What a decision weighs of a session, and no secret.
+// What a decision weighs of a session, and no secret. Of `ems` 0 is no and everything else is yes.
+// Kept: callers of `decide_client` build it; a `bool` would ask more of them.
 #[derive(Clone, Copy)]
 pub struct Weighed {
-    pub ems: bool,
+    pub ems: u8,
     pub suite: u16,
 }
 
@@ -72,7 +73,7 @@ impl Row {
         ensures { (a : ℕ) → result ≡ weighed (session_of a self.now) }
     {
         Weighed {
-            ems: self.ems != 0,
+            ems: u8::from(self.ems != 0),
             suite: u16::from_be_bytes(self.suite),
         }
     }

@@ -1,6 +1,7 @@
 -- The server's six rows.
 -- Assumes nothing.
 use Rattle.std.proofs.Common.{sym, ◌∙◌, ap}
+use borrow.Author.Tests.{ne_eqb}
 use Rattle.decision.specs.Server.{resumable, server_outcome}
 use Rattle.decision.specs.Steps.{reached}
 use Rattle.decision.proofs.Outcomes.{row_none}
@@ -11,11 +12,11 @@ returns-in_default c = let a = c.args in rw c.in_default.is (c.full.ensures ∙ 
 
 pub returns-in-true-true : goal.returns-in-true-true
 unfolding server_outcome resumable
-returns-in-true-true c = rw (c.in-Some.is, c.in-true-true.is-0, c.in-true-true.is-1)
+returns-in-true-true c = rw (c.in-Some.is, ne_eqb c.in-Some.original.ems 0 c.in-true-true.is-0, c.in-true-true.is-1)
 
 pub returns-in-true-false : goal.returns-in-true-false
 unfolding server_outcome resumable
-returns-in-true-false c = rw (c.in-Some.is, c.in-true-false.is-0, c.in-true-false.is-1)
+returns-in-true-false c = rw (c.in-Some.is, ne_eqb c.in-Some.original.ems 0 c.in-true-false.is-0, c.in-true-false.is-1)
 
 pub returns-in-false-true : goal.returns-in-false-true
 unfolding server_outcome resumable
