@@ -1,6 +1,6 @@
 // A message in pieces: the blocks that a piece completes, and the padding behind the last. The tail and the count of what was taken lie in
 // structs of C, and are lent one by one.
-ghost use Rattle.std.specs.Prelude.{◌≡◌, ℕ, ◌+◌, ◌-◌, ◌/◌, ◌≤◌, List, length, drop, nat_lt};
+ghost use Rattle.std.specs.Prelude.{◌≡◌, ℕ, ◌+◌, ◌-◌, ◌/◌, ◌≤◌, List, length, drop, replicate, nat_lt};
 ghost use Rattle.seqs.specs.Blocks.{after};
 ghost use Rattle.seqs.specs.Sha2.{Value, step};
 ghost use Rattle.fips180.specs.Kinds.{size};
@@ -65,10 +65,11 @@ pub fn take<W: Word>(
     lay(tail, 0, &bytes[n - left..]);
 }
 
-// The hash value behind the padding, which is laid into the last block, or the last two. A block of another size, or a count that no hash
-// reaches, changes nothing.
+// The hash value behind the padding, which is laid into the last block, or the last two; the block is blank then. A block of another size,
+// or a count that no hash reaches, changes nothing.
 pub fn end<W: Word>(v: &mut Words<W>, block: &mut [u8], taken: u64)
     ensures ended { length block.old ≡ size W.kind → taken ≤ most → (first : Value) (m : List ℕ) → HoldsBytes W.kind first (value_of W.number v.old) block.old taken m → HashesTo W.kind first m (value_of W.number v.new) }
+    ensures blank { length block.old ≡ size W.kind → taken ≤ most → block.new ≡ replicate (size W.kind) 0 }
     ensures none { (length block.old ≡ size W.kind → taken ≤ most → ⊥) → (v.new ≡ v.old) × (block.new ≡ block.old) }
 {
     let size = W::block();
@@ -84,12 +85,15 @@ pub fn end<W: Word>(v: &mut Words<W>, block: &mut [u8], taken: u64)
     }
     W::put_length(block, taken * 8);
     v.work(block, 0);
+    block.fill(0); // nothing of the message stays
 }
 
 // The hash value of a whole message, from a fresh one: no running hash is made. Its blocks are worked where they lie, and what is left of
-// it goes into the block that is lent, with the padding. A block of another size, or a message that is too long, changes nothing.
+// it goes into the block that is lent, with the padding; the block is blank then. A block of another size, or a message that is too long,
+// changes nothing.
 pub fn whole<W: Word>(v: &mut Words<W>, block: &mut [u8], message: &[u8])
     ensures whole { length block.old ≡ size W.kind → length message.now ≤ most → HashesTo W.kind (value_of W.number v.old) message.now (value_of W.number v.new) }
+    ensures blank { length block.old ≡ size W.kind → length message.now ≤ most → block.new ≡ replicate (size W.kind) 0 }
     ensures none { (length block.old ≡ size W.kind → length message.now ≤ most → ⊥) → (v.new ≡ v.old) × (block.new ≡ block.old) }
 {
     let size = W::block();
