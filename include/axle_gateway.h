@@ -50,8 +50,8 @@ extern "C" {
  * neither. So the shared library's soname has the first two. tools/build reads the numbers here. */
 #define AXLE_GATEWAY_VERSION_MAJOR 0
 #define AXLE_GATEWAY_VERSION_MINOR 9
-#define AXLE_GATEWAY_VERSION_PATCH 5
-#define AXLE_GATEWAY_VERSION "0.9.5"
+#define AXLE_GATEWAY_VERSION_PATCH 4
+#define AXLE_GATEWAY_VERSION "0.9.4"
 /* for #if: 900 is 0.9.0, 10203 is 1.2.3 */
 #define AXLE_GATEWAY_VERSION_NUMBER \
     (AXLE_GATEWAY_VERSION_MAJOR * 10000 + AXLE_GATEWAY_VERSION_MINOR * 100 + AXLE_GATEWAY_VERSION_PATCH)

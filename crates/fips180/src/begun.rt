@@ -70,5 +70,5 @@ pub fn end_short<W: Word>(v: &mut Words<W>, blocks: &mut [u8], a: &[u8], b: &[u8
     W::put_length(&mut blocks[size..], bits as u64);
     v.work(blocks, 0);
     v.work(blocks, size);
-    blocks.fill(0); // nothing of the pieces stays
+    blocks.fill(0); // what is lent comes back blank
 }

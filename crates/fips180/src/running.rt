@@ -85,7 +85,7 @@ pub fn end<W: Word>(v: &mut Words<W>, block: &mut [u8], taken: u64)
     }
     W::put_length(block, taken * 8);
     v.work(block, 0);
-    block.fill(0); // nothing of the message stays
+    block.fill(0); // what is lent comes back blank
 }
 
 // The hash value of a whole message, from a fresh one: no running hash is made. Its blocks are worked where they lie, and what is left of
